@@ -1,8 +1,6 @@
 """The list data/altered.txt: reports of rows, each with one change, and what `replay` is to answer to them.
 
-A line without a tab begins a group: the program's file, the report's file and the thread. Each other line is a case: the range of the
-report's bytes that is changed, the bytes that take its place in hexadecimal or `-`, the status, and past a tab the text with `|` for each
-line feed, or for status 0 `block`: the block of the thread in the report as it is then. What is at fault in a report, and how a thread runs
+The lines are those of changed.py; for status 0 the text is `block`: the block of the thread in the report as it is then. What is at fault in a report, and how a thread runs
 over its journal, is said by examples/report_faults.py and expected_replay.py, which share nothing with the emulator.
 """
 import hashlib
@@ -141,6 +139,6 @@ def altered_list(programs, written, others):
     """The list; there are the programs and the reports that their runs write by their names, and other reports by those of their files."""
     lines = []
     for program, name, report, number, altered in groups(written, others):
-        lines.append(f"{program}.elf {name} {number}\n")
+        lines.append(f"{name} replay {program}.elf @ {number}\n")
         lines += dict.fromkeys(case(programs[program], report, number, *change) for change in altered)
     return "".join(lines)

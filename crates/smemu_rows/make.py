@@ -1,5 +1,5 @@
 #!/usr/bin/env python3
-"""Makes the program files and the sources of data/, the texts that they are to give, the list of them, and that of altered reports.
+"""Makes the program files and the sources of data/, the texts that they are to give, the list of them, and those of files with changes.
 
     crates/smemu_rows/make.py
 
@@ -24,11 +24,15 @@ from expected import report
 from expected_replay import replay
 from workload import bench_line, text as workload_text
 from altered import TWO_THREADS, altered_list, two_threads
+from changed import changed_list, group
 from debug_rows import debug_rows
+from expected_debug import listed
+from frames import frames
 from instructions import EXIT, SVC, add, branch, call, movz, subs
 from lazy import lazy_rows
 from nested import ADDS, masked_and_nested, masks
 from nested_replays import changed_programs, replays_of_nested, version_1_replays
+from source_lines import SOURCE, asm, changes as source_changes
 from sources import WITH_DATA, assemblies, lazy_savings, routine_lines, source_refusals
 from world_rows import world_rows
 
@@ -163,6 +167,7 @@ def whole_refusals():
     yield "overlap-beside-a-load-of-no-bytes", build([text, at(0x3FF000, 0x3000), at(0x400004, 0), at(0x401000, 1)])[0], "overlap 0 1"
     yield "too-many-pages", build([text, at(0x1000000, 4032 * 4096)])[0], "toomanypages 4097"
     yield "too-many-pages-of-loads-that-share-one", build([text, at(TEXT + 4095, 4031 * 4096 + 1), at(2**46, 1)])[0], "toomanypages 4097"
+    yield "load-of-2-to-the-46", build([Segment(0, b"", memory=1 << 46)], entry=0)[0], f"toomanypages {(1 << 34) + 64}"
     yield "too-many-pages-by-far", build([text, at(0x100000000, 0x7C0000000000)])[0], f"toomanypages {0x7C0000000 + 1 + 64}"
     yield "entry-of-no-multiple", build([text], entry=TEXT + 2)[0], "entryoutside 0x0000000000400002"
     yield "entry-before", build([text], entry=TEXT - 4)[0], "entryoutside 0x00000000003ffffc"
@@ -654,9 +659,11 @@ def told(sort, name):
     count = text.count("\n")
     if sort == "rows":
         return "".join(f"{row.split()[0]} agrees\n" for row in text.splitlines())
-    if sort == "altered":
+    if sort == "failing":
+        return "".join(f"{row.split()[0]} agrees where reads and writes fail\n" for row in text.splitlines())
+    if sort == "changed":
         cases = text.count("\t")
-        return f"altered.txt: {cases} of {cases} altered reports agree\n"
+        return f"{name}: {cases} of {cases} changed files agree\n"
     printed = text.count("\tprinted\t")
     return {"words": f"words and texts, both ways: {count} agree\n",
             "texts": f"texts: {printed} agree both ways, {count - printed} aliases are read\n",
@@ -673,6 +680,12 @@ def words_of(options):
     return " ".join([*words[:at], "@", *words[at:]])
 
 
+# rows of each command, whose reads and writes fail in turn as well
+FAILING = ("answer.elf", "writes-33-and-then-to-2.elf", "answer.s", "listing-words.elf", "replay-answer-as-it-is.report", "replay-version-2-of-two-threads.report",
+           "plan-of-the-example.plan", "plan-has-every-refusal.plan", "debug-shows-all-in-the-middle.script", "gen-77", "bench-1-on-1", "refused-empty.elf",
+           "source-unknown-first.s")
+
+
 def main():
     data = HERE / "data"
     rows = [(name, elf(words), {"slice": 1_000_000} if name == "loops" else {}) for name, words in REPORTS.items()] + list(loaded()) + [(name, file, {}) for name, file in [*accesses(), *shared_operations()]]
@@ -684,7 +697,7 @@ def main():
     rows += [(f"{name}.elf", 6, file, text, {"run": ""}) for name, file, text in refusals()]
     rows += [(f"listing-{name}.elf", status, file, text, {"dis": ""}) for name, file, status, text in listings()]
     rows += [(f"source-{name}.s", 7, source, text, {"asm": ""}) for name, source, text in source_refusals()]
-    rows += [(f"{name}.s", 0, source, file, {"asm": ""}) for name, source, file in [*programs, *lazy_savings()]]
+    rows += [(f"{name}.s", 0, source, file, {"asm": ""}) for name, source, file in [*programs, *lazy_savings(), ("source-with-lines-that-move", SOURCE, asm(SOURCE)[1])]]
     runnable = [(name.removesuffix(".elf"), (name.removesuffix(".elf"), file, {k: v for k, v in options.items() if v})) for name, status, file, _, options in rows
                 if status == 0 and "run" in options]
     again = [*replays(runnable, 1), *replays(runnable, 2), *version_1_replays(files, signals(1)), *replays_of_nested(runnable)]
@@ -695,8 +708,13 @@ def main():
     rows += lazy_rows()
     rows += workload_rows()
     rows += debug_rows(rows)
+    framed, framed_reports, framed_list = frames()
+    rows += [(f"{name}.elf", None, file, "", "") for name, file in framed.items()] + [(name, None, text.encode(), "", "") for name, text in framed_reports.items()]
     others = {name: file for name, _, file, _, _ in rows if name in ("debug-signals.report", *TWO_THREADS.values())}
     altered = altered_list(files, written, others)
+    contents = {name: file for name, _, file, _, _ in rows}
+    moved_lines = group("source-with-lines-that-move.s", "asm @", SOURCE, source_changes(), asm, 2000)
+    changed = changed_list({name: words_of(options) for name, _, _, _, options in rows}, contents, listed(), moved_lines)
     for old in [*data.glob("*.txt"), *data.glob("*.s"), *data.glob("*.report"), *data.glob("*.plan"), *data.glob("*.script")]:
         old.unlink()
     for old in data.glob("*.elf"):
@@ -709,10 +727,12 @@ def main():
             (data / f"{name}.txt").write_bytes(text if isinstance(text, bytes) else text.encode())
     rows = [row for row in rows if row[1] is not None]
     (data / "rows.txt").write_text("".join(f"{name} {status} {words_of(options)}\n" for name, status, _, _, options in rows))
-    (data / "altered.txt").write_text(altered)
+    (data / "failing.txt").write_text("".join(f"{name} {status} {words_of(options)}\n" for name, status, _, _, options in rows if name in FAILING))
+    for name, text in ("altered", altered), ("changed", changed), ("frames", framed_list):
+        (data / f"{name}.txt").write_text(text)
     (HERE / "stdout").write_text("".join(told(*argument.split("=")) for argument in (HERE / "args").read_text().split()))
-    cases = altered.count("\t")
-    print(f"{len(rows)} rows, {cases} altered reports")
+    cases = (altered + changed + framed_list).count("\t")
+    print(f"{len(rows)} rows, {cases} changed files")
 
 
 if __name__ == "__main__":

@@ -58,11 +58,17 @@ module _ (config : Config) (thread : ℕ) (s : State) (stop : Option Stop) (done
       longer_on config thread more (course config thread (course_at s stop done answers) n)
       (course config thread (course_at s stop done (answers ++ more)) n) (longer answers more n)
 
-  pub longer_at : (t : State) (d : ℕ) (answers more : List Event) (n : ℕ)
-      → course config thread (course_at s stop done answers) n ≡ Going t d []
-      → course config thread (course_at s stop done (answers ++ more)) n ≡ Going t d more
-  longer_at t d answers more n at =
+  pub longer_going : (t : State) (d : ℕ) (left answers more : List Event) (n : ℕ)
+      → course config thread (course_at s stop done answers) n ≡ Going t d left
+      → course config thread (course_at s stop done (answers ++ more)) n ≡ Going t d (left ++ more)
+  longer_going t d left answers more n at =
       subst (λ (r : Course). IsLonger more r (course config thread (course_at s stop done (answers ++ more)) n)) at (longer answers more n)
+
+-- before its last turn
+pub one_before : (config : Config) (thread : ℕ) (from : Course) (n : ℕ) (t : State) (d : ℕ) (left : List Event)
+    → course config thread from (suc n) ≡ Going t d left → one_more config thread (course config thread from n) ≡ Going t d left
+unfolding course
+one_before config thread from n t d left at = at
 
 -- one turn more
 pub next : (config : Config) (thread : ℕ) (from : Course) (t : State) (d n : ℕ) (left : List Event) (end : TurnEnd)

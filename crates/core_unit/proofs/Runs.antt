@@ -1,6 +1,7 @@
 -- The turns of a resident, one after the other.
 use Rattle.std.proofs.Common.{◌≡◌, ℕ, zero, suc, ◌+◌, ◌≤◌, ◌<◌, ◌++◌, List, [], ◌∷◌, length, refl, ap, sym, ◌∙◌, append_assoc}
 use Rattle.std.proofs.Common.{subst, arith, Option, Some, None, true, false, cond, Bool, inl, inr, add-one, is_some}
+use Rattle.std.specs.Prelude.{◌&&◌}
 use Rattle.std.proofs.lemmas.List.{append-nil, length_push}
 use Rattle.std.proofs.lemmas.Option.{same_Some}
 use Rattle.sm_types.specs.declared.config.Config.{Config}
@@ -13,9 +14,10 @@ use Rattle.shared_region.specs.declared.port.PortStop.TheVariants as refused
 use Rattle.kernel_contexts.specs.State.{State}
 use Rattle.kernel_contexts.specs.Call.{TurnEnd, Goes, Yields, Asks, Ends}
 use Rattle.kernel_contexts.specs.Turn.{turn_of}
-use Rattle.kernel_contexts.specs.Several.{GoesBy}
+use Rattle.kernel_contexts.specs.Several.{GoesApart}
 use Rattle.kernel_contexts.specs.Context.{GoesOn, TurnsOver, TurnsUnless, TurnsOn, AsksFor, made_since, owns, vectors_on}
-use Rattle.kernel_contexts.specs.Context.{state_on, turn_with, made_by, stop_of, thread_of}
+use Rattle.kernel_contexts.specs.Context.{state_on, turn_with, made_by, stop_of, thread_of, config_of}
+use Rattle.kernel_contexts.specs.Needs.{needs_vectors}
 use Rattle.kernel_contexts.specs.declared.context.Context.{Context}
 use Rattle.kernel_contexts.specs.declared.context.Turn.{Turn}
 use Rattle.kernel_contexts.specs.declared.context.Turn.TheVariants as turns
@@ -23,14 +25,17 @@ use Rattle.kernel_contexts.proofs.Answered.{made_events, asked_turned}
 use Rattle.kernel_contexts.proofs.Several.{nothing_refused}
 use Rattle.kernel_contexts.proofs.Turns.{ends_turned, yields_turned}
 use Rattle.kernel_contexts.specs.Owner.{is_owner}
-use Rattle.core_unit.specs.Course.{Going, GaveWay, HasStopped, course}
+use Rattle.core_unit.specs.Course.{Course, Going, GaveWay, HasStopped, course}
 use Rattle.core_unit.specs.Guest.{Guest, next_turn}
+use Rattle.core_unit.specs.Made.{HasMade, waits}
+use Rattle.core_unit.specs.Need.{needs_at, first_need, first_need_of, turns_begun}
 use Rattle.core_unit.specs.Run.{course_at, before_run, answers_of, course_of, RunsFirst, EndsBy, WantsTurn, end_of, end_of_turn}
 use Rattle.core_unit.specs.Run as run
 use Rattle.core_unit.specs.declared.run.RunWhy.{RunWhy}
 use Rattle.core_unit.specs.declared.run.RunWhy.TheVariants.{Spent, Yielded, Stopped, Idle, TraceEnds, TraceDiffers, Memory}
 use Rattle.core_unit.specs.declared.run.CoreRun.{CoreRun}
-use Rattle.core_unit.proofs.Courses.{longer_at, next, asks_next, stays_to}
+use Rattle.core_unit.proofs.Courses.{HasEnded, longer_going, next, asks_next, stays_to}
+use Rattle.core_unit.proofs.Needing.{first_none, first_more, first_here, ended_first, longer_first}
 
 -- a guest thread after so many turns
 pub record HasRun (old : Guest) (n : ℕ) (now : Guest) : Type 0 where
@@ -86,7 +91,7 @@ module _ (old now next : Guest) (n : ℕ) (made : List Event) (h : HasRun old n 
       made_events old.journal next.journal (answers_of old now ++ made)
       (answers_more old.journal now.journal next.journal made h.journal later.journal)
 
-  grown : next.journal ≡ old.journal ++ answers_of old next
+  pub grown : next.journal ≡ old.journal ++ answers_of old next
   grown =
       answers_more old.journal now.journal next.journal made h.journal later.journal
       ∙ ap (λ (l : List Event). old.journal ++ l) (sym is_answers)
@@ -95,11 +100,32 @@ module _ (old now next : Guest) (n : ℕ) (made : List Event) (h : HasRun old n 
   goes_here = h.place ∙ ap (λ (o : Option Stop). course_at now.state o (length now.journal) []) runs
 
   -- with the answers of the next turn
-  at_next : course_of old next n ≡ Going now.state (length now.journal) made
+  pub at_next : course_of old next n ≡ Going now.state (length now.journal) made
   at_next =
       ap (λ (l : List Event). course old.config old.number (before_run old l) n) is_answers
-      ∙ longer_at old.config old.number old.state old.stop (length old.journal) now.state (length now.journal)
+      ∙ longer_going old.config old.number old.state old.stop (length old.journal) now.state (length now.journal) []
       (answers_of old now) made n goes_here
+
+  -- which turn needs vectors first
+  abbrev started : Course
+  started = before_run old (answers_of old next)
+
+  pub quiet_next : first_need_of old now n ≡ None → first_need_of old next n ≡ None
+  quiet_next q =
+      ap (λ (l : List Event). first_need old.config old.number (before_run old l) n) is_answers
+      ∙ longer_first old.config old.number old.state old.stop (length old.journal) (answers_of old now) made n now.state
+      (length now.journal) [] goes_here
+      ∙ q
+
+  needs_here : (needs : Bool) → needs_vectors now.config now.state ≡ needs → needs_at old.config (course_of old next n) ≡ needs
+  needs_here needs is =
+      ap (needs_at old.config) at_next ∙ ap (λ (c : Config). needs_vectors c now.state) (sym h.config) ∙ is
+
+  pub quiet_on : first_need_of old now n ≡ None → needs_vectors now.config now.state ≡ false → first_need_of old next (suc n) ≡ None
+  quiet_on q needs = first_more old.config old.number started n (quiet_next q) (needs_here false needs)
+
+  pub need_here : first_need_of old now n ≡ None → needs_vectors now.config now.state ≡ true → first_need_of old next (suc n) ≡ Some n
+  need_here q needs = first_here old.config old.number started n (quiet_next q) (needs_here true needs)
 
   same_turn : (end : TurnEnd) → next_turn now ≡ end → turn_of old.config old.number (length now.journal) now.state ≡ end
   same_turn end is =
@@ -273,27 +299,91 @@ module _ (old now next : Guest) (n : ℕ) (made : List Event) (h : HasRun old n 
           subst (λ (w : RunWhy). EndsBy refusals k old next rose (end_of w)) (same_Some Memory why is)
           (still e.0 e.1 e.2, fewer e.0, wants_there refusals.takes_memory e.0 e.1 e.2 (wants refl))
 
+      -- no turn that it began needs vectors
+      abbrev IsQuiet : RunWhy → Type 0
+      IsQuiet why = first_need_of old next (turns_begun (end_of why) k rose) ≡ None
+
+      quiet_cut : next.state ≡ now.state → first_need_of old next (suc n) ≡ None → first_need_of old next (rose + 1) ≡ None
+      quiet_cut same q =
+          let level = ap (λ (s : State). s.turns) same in
+          let all : rose + 1 ≡ suc n = omega (arith, level, h.turns, rises_by) in
+          ap (first_need_of old next) all ∙ q
+
+      quiet_end : (here : Course) → HasEnded here → course_of old next (suc n) ≡ here → first_need_of old next (suc n) ≡ None
+          → first_need_of old next k ≡ None
+      quiet_end here ended at q = ended_first old.config old.number started here (suc n) k (omega (arith, less)) ended at q
+
+      pub quiet_so : (turn : Turn) (why : RunWhy) → end_of_turn turn ≡ Some why → NextTurn turn
+          → first_need_of old next (suc n) ≡ None → IsQuiet why
+      quiet_so turns.Ran why is e q = cc
+      quiet_so turns.Yielded why is e q =
+          subst IsQuiet (same_Some Yielded why is)
+          (quiet_end (GaveWay next.state (length next.journal) []) tt (has_given_way e.0 e.1) q)
+      quiet_so (turns.Stopped stop) why is e q =
+          subst IsQuiet (same_Some Stopped why is)
+          (quiet_end (HasStopped next.state stop (length next.journal) []) tt (has_stopped stop e.0 e.1) q)
+      quiet_so turns.NeedsBank why is e q = absurd e
+      quiet_so turns.TraceEnds why is e q = subst IsQuiet (same_Some TraceEnds why is) (quiet_cut e.1 q)
+      quiet_so turns.TraceDiffers why is e q = subst IsQuiet (same_Some TraceDiffers why is) (quiet_cut e.1 q)
+      quiet_so turns.Memory why is e q = subst IsQuiet (same_Some Memory why is) (quiet_cut e.0 q)
+
       pub runs_so : (turn : Turn) (why : RunWhy) → end_of_turn turn ≡ Some why → NextTurn turn
           → (turn ≡ turns.Memory → WantsTurn refusals.takes_memory now)
           → RunsFirst refusals k old next (record { turns = rose; why = why })
       runs_so turn why is e wants = run_by why (ends_with turn why is e wants)
 
--- several turns more, each of which goes on and asks nothing
-same_run : (old now next : Guest) (n : ℕ) → next ≡ now → HasRun old n now → HasRun old n next
-same_run old now next n is h = subst (HasRun old n) (sym is) h
+-- the same thread several turns later, each of which goes on and asks nothing
+pub record IsGoneBy (apart : Bool) (now : Guest) (m : ℕ) (next : Guest) : Type 0 where
+  pub program : next.program ≡ now.program
+  pub config : next.config ≡ now.config
+  pub number : next.number ≡ now.number
+  pub journal : next.journal ≡ now.journal
+  pub runs : now.stop ≡ None
+  pub stop : next.stop ≡ None
+  pub goes : GoesApart apart now.config now.number (length now.journal) m now.state next.state
 
-pub gone_by : (old now next : Guest) (n m : ℕ) → HasRun old n now → now.stop ≡ None → next.program ≡ now.program
-    → next.config ≡ now.config → next.number ≡ now.number → next.journal ≡ now.journal → next.stop ≡ None
-    → GoesBy now.config now.number (length now.journal) m now.state next.state → HasRun old (n + m) next
-gone_by old now next n zero h runs program config number journal stopped goes =
-    let none : n + 0 ≡ n = omega arith in
-    rw none (same_run old now next n (same_guest now next program config number goes (stopped ∙ sym runs) journal) h)
-gone_by old now next n (suc m) h runs program config number journal stopped goes =
-    let before : Guest = record now { state = goes.0 } in
-    let more : n + suc m ≡ n + m + 1 = omega arith in
-    rw more (has_gone_on old before next (n + m) [] (gone_by old now before n m h runs refl refl refl refl runs goes.1) runs
-    (record { program = program; config = config; number = number; journal = journal ∙ sym (append-nil now.journal) })
-    nothing_refused goes.2 stopped)
+module _ (apart : Bool) (old : Guest) where
+  nowhere : (now next : Guest) → IsGoneBy apart now 0 next → next ≡ now
+  nowhere now next b = same_guest now next b.program b.config b.number b.goes (b.stop ∙ sym b.runs) b.journal
+
+  -- before the last of them
+  abbrev before_last : (now next : Guest) (m : ℕ) → IsGoneBy apart now (suc m) next → Guest
+  before_last now next m b = record now { state = b.goes.0 }
+
+  fewer_by : (now next : Guest) (m : ℕ) (b : IsGoneBy apart now (suc m) next) → IsGoneBy apart now m (before_last now next m b)
+  fewer_by now next m b = record {
+    program = refl;
+    config = refl;
+    number = refl;
+    journal = refl;
+    runs = b.runs;
+    stop = b.runs;
+    goes = b.goes.1;
+  }
+
+  later_by : (now next : Guest) (m : ℕ) (b : IsGoneBy apart now (suc m) next) → IsLater (before_last now next m b) next []
+  later_by now next m b =
+      record { program = b.program; config = b.config; number = b.number; journal = b.journal ∙ sym (append-nil now.journal) }
+
+  pub gone_by : (now next : Guest) (n m : ℕ) → HasRun old n now → IsGoneBy apart now m next → HasRun old (n + m) next
+  gone_by now next n zero h b =
+      let none : n + 0 ≡ n = omega arith in rw none (subst (HasRun old n) (sym (nowhere now next b)) h)
+  gone_by now next n (suc m) h b =
+      let more : n + suc m ≡ n + m + 1 = omega arith in
+      rw more (has_gone_on old (before_last now next m b) next (n + m) [] (gone_by now (before_last now next m b) n m h (fewer_by now next m b))
+      b.runs (later_by now next m b) nothing_refused b.goes.2 b.stop)
+
+  pub quiet_by : (now next : Guest) (n m : ℕ) → apart ≡ true → HasRun old n now → IsGoneBy apart now m next
+      → first_need_of old now n ≡ None → first_need_of old next (n + m) ≡ None
+  quiet_by now next n zero is h b q =
+      let none : n + 0 ≡ n = omega arith in
+      rw none (subst (λ (g : Guest). first_need_of old g n ≡ None) (sym (nowhere now next b)) q)
+  quiet_by now next n (suc m) is h b q =
+      let more : n + suc m ≡ suc (n + m) = omega arith in
+      let mid = before_last now next m b in
+      let needs = sym (ap (λ a. a && needs_vectors now.config b.goes.0) is) ∙ b.goes.3 in
+      rw more (quiet_on old mid next (n + m) [] (gone_by now mid n m h (fewer_by now next m b)) b.runs (later_by now next m b)
+      (quiet_by now mid n m is h (fewer_by now next m b) q) needs)
 
 -- as many turns as it was let
 pub runs_spent : (refusals : Refusals) (k : ℕ) (old now : Guest) (n : ℕ) → HasRun old n now
@@ -332,49 +422,138 @@ runs_not refusals k old stop is =
       );
     }
 
+-- none of no turns needs vectors, nor one of a thread that had stopped
+pub quiet_start : (old : Guest) → first_need_of old old 0 ≡ None
+quiet_start old = first_none old.config old.number (before_run old (answers_of old old))
+
+pub quiet_not : (k : ℕ) (old : Guest) (found : Option Stop) → found ≡ old.stop → is_some found ≡ true
+    → first_need_of old old k ≡ None
+quiet_not k old (Some stop) is some =
+    ended_first old.config old.number (before_run old (answers_of old old)) (HasStopped old.state stop (length old.journal) []) 0 k
+    (omega arith) tt
+    ((run_begins old).place ∙ ap (λ (o : Option Stop). course_at old.state o (length old.journal) []) (sym is))
+    (quiet_start old)
+quiet_not k old None is some = cc
+
 -- a run of a resident is not idle
 pub never_idle : (refusals : Refusals) (k : ℕ) (old new : Guest) (run : CoreRun) → RunsFirst refusals k old new run → run.why ≡ Idle → ⊥
 never_idle refusals k old new run h is = subst (λ (w : RunWhy). EndsBy refusals k old new run.turns (end_of w)) is h.end
 
--- ---- what a turn on the bank of a core says, where the thread owns it and has not stopped
+-- ---- what a turn on the bank of a core says, of a thread that has not stopped
 
-unless_not_needed : (owned needs : Bool) (refusals : Refusals) (end : TurnEnd) (old new : State) (made : List Event) (stopped : Option Stop)
-    → owned ≡ true → TurnsUnless (cond owned false needs) refusals end old new made stopped turns.NeedsBank → ⊥
-unless_not_needed true needs refusals end old new made stopped is h = h
-unless_not_needed false needs refusals end old new made stopped is h = cc
+not_waiting : (turn : Turn) → waits turn ≡ false → turn ≡ turns.NeedsBank → ⊥
+not_waiting turns.Ran h is = cc
+not_waiting turns.Yielded h is = cc
+not_waiting turns.NeedsBank h is = cc
+not_waiting (turns.Stopped stop) h is = cc
+not_waiting turns.TraceEnds h is = cc
+not_waiting turns.TraceDiffers h is = cc
+not_waiting turns.Memory h is = cc
 
-pub never_needs : (stop : Option Stop) (refusals : Refusals) (old : Context) (before : Bank) (new : Context) (after : Bank) (turn : Turn)
-    → owns before (thread_of old) ≡ true → TurnsOn stop refusals old before new after turn → turn ≡ turns.NeedsBank → ⊥
-never_needs None refusals old before new after turns.NeedsBank owned h is = unless_not_needed _ _ _ _ _ _ _ _ owned h
-never_needs (Some stop) refusals old before new after turns.NeedsBank owned h is = cc
-never_needs stop refusals old before new after turns.Ran owned h is = cc
-never_needs stop refusals old before new after turns.Yielded owned h is = cc
-never_needs stop refusals old before new after (turns.Stopped reason) owned h is = cc
-never_needs stop refusals old before new after turns.TraceEnds owned h is = cc
-never_needs stop refusals old before new after turns.TraceDiffers owned h is = cc
-never_needs stop refusals old before new after turns.Memory owned h is = cc
+pub made_turn : (turn : Turn) (found : Bool) → found ≡ waits turn → found ≡ false → turn ≡ turns.NeedsBank → ⊥
+made_turn turn found is none = not_waiting turn (sym is ∙ none)
 
-unless_owned : (owned needs : Bool) (refusals : Refusals) (end : TurnEnd) (old new : State) (made : List Event) (stopped : Option Stop)
-    (turn : Turn) → owned ≡ true → TurnsUnless (cond owned false needs) refusals end old new made stopped turn
+unless_made : (needs : Bool) (refusals : Refusals) (end : TurnEnd) (old new : State) (made : List Event) (stopped : Option Stop)
+    (turn : Turn) → (turn ≡ turns.NeedsBank → ⊥) → TurnsUnless needs refusals end old new made stopped turn
     → TurnsOver refusals end old new made stopped turn
-unless_owned true needs refusals end old new made stopped turn is h = h
-unless_owned false needs refusals end old new made stopped turn is h = cc
+unless_made true refusals end old new made stopped turn not h = absurd (not h.0)
+unless_made false refusals end old new made stopped turn not h = h
 
 pub turned_on : (stop : Option Stop) (refusals : Refusals) (old : Context) (before : Bank) (new : Context) (after : Bank) (turn : Turn)
-    → stop ≡ None → owns before (thread_of old) ≡ true → TurnsOn stop refusals old before new after turn
+    → stop ≡ None → (turn ≡ turns.NeedsBank → ⊥) → TurnsOn stop refusals old before new after turn
     → TurnsOver refusals (turn_with old (vectors_on old before)) (state_on old before) (state_on new after) (made_by old new)
     (stop_of new) turn
-turned_on None refusals old before new after turn is owned h = unless_owned _ _ _ _ _ _ _ _ _ owned h
-turned_on (Some stop) refusals old before new after turn is owned h = cc
+turned_on None refusals old before new after turn is not h = unless_made _ _ _ _ _ _ _ _ not h
+turned_on (Some stop) refusals old before new after turn is not h = cc
+
+-- one that was made of a thread that does not own the bank needs no vectors
+unless_not : (owned needs : Bool) (refusals : Refusals) (end : TurnEnd) (old new : State) (made : List Event) (stopped : Option Stop)
+    (turn : Turn) → (turn ≡ turns.NeedsBank → ⊥) → owned ≡ false
+    → TurnsUnless (cond owned false needs) refusals end old new made stopped turn → needs ≡ false
+unless_not true needs refusals end old new made stopped turn not e h = cc
+unless_not false true refusals end old new made stopped turn not e h = absurd (not h.0)
+unless_not false false refusals end old new made stopped turn not e h = refl
+
+pub unneeded_on : (stop : Option Stop) (refusals : Refusals) (old : Context) (before : Bank) (new : Context) (after : Bank) (turn : Turn)
+    → stop ≡ None → (turn ≡ turns.NeedsBank → ⊥) → owns before (thread_of old) ≡ false
+    → TurnsOn stop refusals old before new after turn → needs_vectors (config_of old) (state_on old before) ≡ false
+unneeded_on None refusals old before new after turn is not apart h = unless_not _ _ _ _ _ _ _ _ _ not apart h
+unneeded_on (Some stop) refusals old before new after turn is not apart h = cc
+
+-- a turn that needs the bank: the thread does not own it, and nothing has changed
+pub record Needed (owned needed : Bool) (old new : State) (made : List Event) (stopped : Option Stop) : Type 0 where
+  pub apart : owned ≡ false
+  pub needs : needed ≡ true
+  pub same : new ≡ old
+  pub none : made ≡ []
+  pub runs : stopped ≡ None
+
+unless_needed : (owned needs : Bool) (refusals : Refusals) (end : TurnEnd) (old new : State) (made : List Event) (stopped : Option Stop)
+    (turn : Turn) → waits turn ≡ true → TurnsUnless (cond owned false needs) refusals end old new made stopped turn
+    → Needed owned needs old new made stopped
+unless_needed false true refusals end old new made stopped turn waits h =
+    record { apart = refl; needs = refl; same = h.1; none = h.2; runs = h.3 }
+unless_needed false false refusals end old new made stopped turns.NeedsBank waits h = absurd h
+unless_needed false false refusals end old new made stopped turns.Ran waits h = cc
+unless_needed false false refusals end old new made stopped turns.Yielded waits h = cc
+unless_needed false false refusals end old new made stopped (turns.Stopped stop) waits h = cc
+unless_needed false false refusals end old new made stopped turns.TraceEnds waits h = cc
+unless_needed false false refusals end old new made stopped turns.TraceDiffers waits h = cc
+unless_needed false false refusals end old new made stopped turns.Memory waits h = cc
+unless_needed true needs refusals end old new made stopped turns.NeedsBank waits h = absurd h
+unless_needed true needs refusals end old new made stopped turns.Ran waits h = cc
+unless_needed true needs refusals end old new made stopped turns.Yielded waits h = cc
+unless_needed true needs refusals end old new made stopped (turns.Stopped stop) waits h = cc
+unless_needed true needs refusals end old new made stopped turns.TraceEnds waits h = cc
+unless_needed true needs refusals end old new made stopped turns.TraceDiffers waits h = cc
+unless_needed true needs refusals end old new made stopped turns.Memory waits h = cc
+
+pub needed_on : (stop : Option Stop) (refusals : Refusals) (old : Context) (before : Bank) (new : Context) (after : Bank) (turn : Turn)
+    → stop ≡ None → waits turn ≡ true → TurnsOn stop refusals old before new after turn
+    → Needed (owns before (thread_of old)) (needs_vectors (config_of old) (state_on old before)) (state_on old before)
+    (state_on new after) (made_by old new) (stop_of new)
+needed_on None refusals old before new after turn is waits h = unless_needed _ _ _ _ _ _ _ _ _ waits h
+needed_on (Some stop) refusals old before new after turn is waits h = cc
+
+-- so many turns were made before it
+pub has_made : (old now next : Guest) (n : ℕ) (made : List Event) → HasRun old n now → now.stop ≡ None → IsLater now next made
+    → made ≡ [] → next.state ≡ now.state → next.stop ≡ None → HasMade old n next
+has_made old now next n made h runs later none same stop =
+    let journal : now.journal ≡ next.journal =
+    sym (later.journal ∙ ap (λ (l : List Event). now.journal ++ l) none ∙ append-nil now.journal) in
+    subst (HasMade old n)
+    (same_guest next now (sym later.program) (sym later.config) (sym later.number) (sym same) (runs ∙ sym stop) journal)
+    (record {
+      program = h.program;
+      config = h.config;
+      number = h.number;
+      journal = h.journal;
+      turned = h.turns;
+      goes = h.place ∙ ap (λ (o : Option Stop). course_at now.state o (length now.journal) []) runs;
+      runs = runs;
+    })
 
 pub runs_not_some : (refusals : Refusals) (k : ℕ) (old : Guest) (found : Option Stop) → found ≡ old.stop
     → is_some found ≡ true → RunsFirst refusals k old old (record { turns = 0; why = Stopped })
 runs_not_some refusals k old (Some stop) is some = runs_not refusals k old stop (sym is)
 runs_not_some refusals k old None is some = cc
 
-pub owned_still : (bank after : Bank) (thread number : ℕ) → after.owner ≡ bank.owner → number ≡ thread → owns bank thread ≡ true
-    → owns after number ≡ true
-owned_still bank after thread number owner same h = ap (λ (n : ℕ). owns after n) same ∙ ap (λ (o : Option ℕ). is_owner o thread) owner ∙ h
+-- the bank has its owner still, and the thread its number
+owned_as : (bank after : Bank) (thread number : ℕ) → after.owner ≡ bank.owner → number ≡ thread → owns after number ≡ owns bank thread
+owned_as bank after thread number owner same =
+    ap (λ (n : ℕ). owns after n) same ∙ ap (λ (o : Option ℕ). is_owner o thread) owner
+
+pub owned_still : (bank after : Bank) (thread number : ℕ) → after.owner ≡ bank.owner → number ≡ thread → owns bank thread ≡ false
+    → owns after number ≡ false
+owned_still bank after thread number owner same h = owned_as bank after thread number owner same ∙ h
+
+pub owned_before : (bank after : Bank) (thread number : ℕ) → after.owner ≡ bank.owner → number ≡ thread → owns after number ≡ false
+    → owns bank thread ≡ false
+owned_before bank after thread number owner same h = sym (owned_as bank after thread number owner same) ∙ h
+
+pub needs_there : (config before : Config) (s t : State) → config ≡ before → s ≡ t → needs_vectors before t ≡ true
+    → needs_vectors config s ≡ true
+needs_there config before s t same is h = ap (λ (c : Config). needs_vectors c s) same ∙ ap (needs_vectors before) is ∙ h
 
 pub none_of : (found stop : Option Stop) → found ≡ stop → is_some found ≡ false → stop ≡ None
 none_of (Some stop) other is some = cc

@@ -1,6 +1,9 @@
 pub mod Course
 pub mod Guest
 pub mod Run
+pub mod Need
+pub mod Made
+pub mod Owners
 pub mod CoreState
-pub mod Home
+pub mod Residents
 pub mod View

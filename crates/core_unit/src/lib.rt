@@ -2,6 +2,7 @@
 //! bank. `Core::run` lets it make turns until so many are made, it gives way or it stops.
 #![tactic(auto)]
 
+mod moves;
 mod resident;
 mod run;
 mod turns;

@@ -1,8 +1,9 @@
-//! The residents of a core.
+//! The residents of a core, and which of them owns its bank.
 ghost use Rattle.std.specs.Prelude.{◌≡◌, true, Some};
-ghost use Rattle.kernel_contexts.specs.Context.{thread_of, journal_of};
+ghost use Rattle.kernel_contexts.specs.Context.{thread_of, journal_of, owns};
 
 use kernel_contexts::Context;
+use mem_access::Bank;
 use shared_region::Port;
 
 /// A context with its ticket. Its vectors and ZA are in its save area, or in the bank of the core.
@@ -12,4 +13,14 @@ pub struct Resident<P: Port> {
     pub ticket: P::Ticket,
     pub ghost number: { (P.tells ticket).number ≡ Some (thread_of context) },
     pub ghost journal: { (P.tells ticket).events ≡ journal_of context },
+}
+
+/// Whether the thread of that number owns a bank.
+pub fn is_owner(bank: &Bank, thread: u32) -> bool
+    ensures { result ≡ owns bank.now thread }
+{
+    match bank.owner() {
+        Some(owner) => owner == thread,
+        None => false,
+    }
 }

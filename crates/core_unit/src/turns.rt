@@ -1,16 +1,26 @@
 //! The turns that a core lets a resident make.
-ghost use Rattle.std.specs.Prelude.{◌≡◌, ◌≢◌, true};
+ghost use Rattle.std.specs.Prelude.{◌≡◌, ◌≢◌, false};
 ghost use Rattle.machine_step.specs.Machine.{IsSameBank};
 ghost use Rattle.shared_region.specs.Tickets.{IsTicketOf, GivesEvents};
 ghost use Rattle.kernel_contexts.specs.Context.{IsOn, owns, thread_of, made_by, IsSameThread};
 ghost use Rattle.core_unit.specs.Guest.{guest_on};
-ghost use Rattle.core_unit.specs.Run.{RunsFirst, end_of_turn};
+ghost use Rattle.core_unit.specs.Made.{TurnsMade, waits};
+ghost use Rattle.core_unit.specs.Run.{end_of_turn};
 
 use crate::resident::Resident;
 use crate::run::{CoreRun, RunWhy};
 use kernel_contexts::Turn;
 use mem_access::Bank;
 use shared_region::Port;
+
+/// How the turns of a resident ended.
+#[derive(Clone, Copy)]
+pub enum TurnsEnd {
+    /// As a run ends.
+    Ended(CoreRun),
+    /// So many turns were made, and the next one needs the thread's vectors in the bank.
+    NeedsBank(u32),
+}
 
 /// Why a run ends with a turn; `None` where the thread goes on.
 fn end_of_turn(turn: Turn) -> Option<RunWhy>
@@ -28,31 +38,43 @@ fn end_of_turn(turn: Turn) -> Option<RunWhy>
     }
 }
 
-/// Lets a resident whose thread owns the bank make so many turns at most.
+/// Whether a turn is not made since it needs the bank.
+fn waits(turn: Turn) -> bool
+    ensures { result ≡ waits turn }
+{
+    match turn {
+        Turn::NeedsBank => true,
+        _ => false,
+    }
+}
+
+/// Lets a resident make so many turns at most, until one needs the bank, which its thread does not own: that
+/// bank stays as it is.
 pub fn make_turns<P: Port>(
     resident: &mut Resident<P>,
     bank: &mut Bank,
     port: &mut P,
     k: u32,
-) -> CoreRun
+) -> TurnsEnd
     requires on { IsOn resident.old.context bank.old }
-    requires owned { owns bank.old (thread_of resident.old.context) ≡ true }
     requires ticket { IsTicketOf (thread_of resident.old.context) (P.name port.old)
         (P.tells resident.old.ticket) }
-    ensures run { RunsFirst (P.refuses port.new resident.new.ticket) k
-        (guest_on bank.old resident.old.context) (guest_on bank.new resident.new.context) result }
+    ensures turns { TurnsMade (P.refuses port.new resident.new.ticket) k
+        (guest_on bank.old resident.old.context) (guest_on bank.new resident.new.context)
+        (owns bank.old (thread_of resident.old.context)) result }
     ensures gives { GivesEvents P.gives P.name P.tells (thread_of resident.old.context)
         (made_by resident.old.context resident.new.context) port.old resident.old.ticket port.new
         resident.new.ticket }
     ensures on { IsOn resident.new.context bank.new }
     ensures bank { IsSameBank bank.old bank.new }
+    ensures apart { owns bank.old (thread_of resident.old.context) ≡ false → bank.new ≡ bank.old }
     ensures same { IsSameThread resident.old.context resident.new.context }
 {
     if resident.context.stop().is_some() {
-        return CoreRun {
+        return TurnsEnd::Ended(CoreRun {
             turns: 0,
             why: RunWhy::Stopped,
-        };
+        });
     }
     let begun = resident.context.turns();
     let mut turns = 0;
@@ -60,6 +82,9 @@ pub fn make_turns<P: Port>(
         let turn = resident
             .context
             .advance_on(bank, port, &mut resident.ticket);
+        if waits(turn) {
+            return TurnsEnd::NeedsBank(turns);
+        }
         match end_of_turn(turn) {
             None => {
                 turns += 1;
@@ -67,12 +92,12 @@ pub fn make_turns<P: Port>(
             }
             Some(why) => {
                 let made = (resident.context.turns() - begun) as u32;
-                return CoreRun { turns: made, why };
+                return TurnsEnd::Ended(CoreRun { turns: made, why });
             }
         }
     }
-    CoreRun {
+    TurnsEnd::Ended(CoreRun {
         turns,
         why: RunWhy::Spent,
-    }
+    })
 }

@@ -1,18 +1,18 @@
 //! Cores.
-ghost use Rattle.std.specs.Prelude.{◌≡◌, ◌+◌, ◌<◌, ◌≤◌, ◌++◌, ℕ, [], ◌∷◌, vec_len, vec_capacity, length};
-ghost use Rattle.std.specs.Prelude.{drop, slice_get, Some, None, IfOk, IfErr, IfSome, OnOk, OnErr};
-ghost use Rattle.std.specs.Prelude.{true, false};
-ghost use Rattle.shared_region.specs.Tickets.{IsTicketOf, GivesEvents};
+ghost use Rattle.std.specs.Prelude.{◌≡◌, ◌+◌, ◌<◌, ◌≤◌, ℕ, [], vec_len, vec_capacity, length};
+ghost use Rattle.std.specs.Prelude.{slice_get, Some, None, IfOk, IfErr, IfSome, OnOk, OnErr, true, false};
+ghost use Rattle.shared_region.specs.Tickets.{GivesEvents};
 ghost use Rattle.kernel_contexts.specs.SaveArea.{HasLengths};
-ghost use Rattle.kernel_contexts.specs.Context.{is_home, config_of, thread_of, made_by, IsSameThread};
+ghost use Rattle.kernel_contexts.specs.Context.{config_of, thread_of};
 ghost use Rattle.core_unit.specs.CoreState.{places};
-ghost use Rattle.core_unit.specs.Guest.{guest_of, held_of};
-ghost use Rattle.core_unit.specs.Home.{IsAtHome};
-ghost use Rattle.core_unit.specs.Run.{RunsFirst, is_stop};
+ghost use Rattle.core_unit.specs.Owners.{IsTold, are_apart, freed_by, numbers_of, owns_among};
+ghost use Rattle.core_unit.specs.Residents.{AreOn, AreOn-prop, HasRetired, HasSameLengths};
+ghost use Rattle.core_unit.specs.Residents.{held_at, held_home};
+ghost use Rattle.core_unit.specs.Run.{is_stop};
 
+use crate::moves::{run_first, take_first};
 use crate::resident::Resident;
 use crate::run::{CoreRun, RunWhy};
-use crate::turns::make_turns;
 use kernel_contexts::Whole;
 use mem_access::Bank;
 use shared_region::Port;
@@ -23,8 +23,8 @@ use std::alloc::Global;
 pub const PLACES: usize = 8;
 
 /// A core: a queue of residents, of which the first one makes turns, threads that have stopped, and a bank.
-/// There are at most eight residents and stopped threads together. Between two calls no thread owns the bank,
-/// and each resident is home.
+/// There are at most eight residents and stopped threads together. The bank has the vectors and ZA of the
+/// last resident that needed it, which is its owner; those of all others are in their save areas.
 #[derive(Drop)]
 pub struct Core<P: Port> {
     number: u32,
@@ -33,33 +33,15 @@ pub struct Core<P: Port> {
     done: Vec<Whole<P>>,
     bank: Bank,
     ghost lengths: { HasLengths config bank },
-    ghost owner: { bank.owner ≡ None },
     ghost few: { vec_len residents + vec_len done ≤ places },
     ghost room: { places ≤ vec_capacity residents },
     ghost done_room: { places ≤ vec_capacity done },
-    ghost at_home: { (i : ℕ) (r : _) → slice_get residents.items i ≡ Some r → IsAtHome config r.context },
-}
-
-/// Lets the first resident of a core make so many turns at most: its vectors and ZA are moved into the bank
-/// for that, and back.
-fn run_first<P: Port>(first: &mut Resident<P>, bank: &mut Bank, port: &mut P, k: u32) -> CoreRun
-    requires home { is_home first.old.context ≡ true }
-    requires lengths { HasLengths (config_of first.old.context) bank.old }
-    requires owner { bank.old.owner ≡ None }
-    requires ticket { IsTicketOf (thread_of first.old.context) (P.name port.old) (P.tells first.old.ticket) }
-    ensures run { RunsFirst (P.refuses port.new first.new.ticket) k
-        (guest_of first.old.context) (guest_of first.new.context) result }
-    ensures gives { GivesEvents P.gives P.name P.tells (thread_of first.old.context)
-        (made_by first.old.context first.new.context) port.old first.old.ticket port.new first.new.ticket }
-    ensures home { is_home first.new.context ≡ true }
-    ensures lengths { HasLengths (config_of first.old.context) bank.new }
-    ensures owner { bank.new.owner ≡ None }
-    ensures same { IsSameThread first.old.context first.new.context }
-{
-    first.context.bank_in(bank);
-    let run = make_turns(first, bank, port, k);
-    first.context.bank_out(bank);
-    run
+    ghost options: { (i : ℕ) (h : _) → slice_get (held_at bank residents.items) i ≡ Some h
+        → h.guest.config ≡ config },
+    ghost on: { AreOn bank residents.items } by { AreOn-prop bank residents.items },
+    ghost apart: { are_apart (numbers_of (held_at bank residents.items)) ≡ true },
+    ghost owner: { (n : ℕ) → bank.owner ≡ Some n
+        → owns_among (Some n) (numbers_of (held_at bank residents.items)) ≡ true },
 }
 
 /// Whether a run ended by a stop.
@@ -72,29 +54,32 @@ fn is_stop(why: RunWhy) -> bool
     }
 }
 
-/// Takes the first resident, which is home, out to those that have stopped.
-fn retire<P: Port>(residents: &mut Vec<Resident<P>>, done: &mut Vec<Whole<P>>)
+/// Takes the first resident out to those that have stopped.
+fn retire<P: Port>(residents: &mut Vec<Resident<P>>, bank: &mut Bank, done: &mut Vec<Whole<P>>)
     requires some { 0 < vec_len residents.old }
-    requires home { (r : _) → slice_get residents.old.items 0 ≡ Some r → is_home r.context ≡ true }
+    requires on { AreOn bank.old residents.old.items }
+    requires told { IsTold bank.old.owner (held_at bank.old residents.old.items) }
     requires room { vec_len done.old < vec_capacity done.old }
-    ensures residents { residents.new.items ≡ drop 1 residents.old.items }
-    ensures done { (r : _) → slice_get residents.old.items 0 ≡ Some r
-        → held_of (λ w. w.context) (λ w. w.ticket) done.new.items
-        ≡ held_of (λ w. w.context) (λ w. w.ticket) done.old.items
-        ++ record { guest = guest_of r.context; ticket = r.ticket } ∷ [] }
+    ensures retired { HasRetired (held_at bank.old residents.old.items) (held_home done.old.items)
+        (held_at bank.new residents.new.items) (held_home done.new.items) }
+    ensures on { AreOn bank.new residents.new.items }
+    ensures owner { bank.new.owner
+        ≡ freed_by (held_at bank.old residents.old.items) bank.old.owner }
+    ensures lengths { HasSameLengths bank.old bank.new }
     ensures len { (vec_len residents.new + 1 ≡ vec_len residents.old)
         × (vec_len done.new ≡ vec_len done.old + 1) }
     ensures room { (vec_capacity residents.new ≡ vec_capacity residents.old)
         × (vec_capacity done.new ≡ vec_capacity done.old) }
 {
-    let Resident { context, ticket } = residents.remove(0);
-    done.push_reserved(Whole { context, ticket });
+    let whole = take_first(residents, bank);
+    done.push_reserved(whole);
 }
 
 impl<P: Port> Core<P> {
     ghost use Rattle.core_unit.specs.CoreState.{empty_core, thread_count, with_first, with_last};
     ghost use Rattle.core_unit.specs.CoreState.{with_done, with_next, first_number, turned_over};
     ghost use Rattle.core_unit.specs.CoreState.{IsAbsent, BelongTo};
+    ghost use Rattle.core_unit.specs.Owners.{OwnerWith};
     ghost use Rattle.core_unit.specs.Run.{RunsCore};
     ghost use Rattle.core_unit.specs.View.{core_state, held_by, bank_in, owner_of, contexts_in};
 
@@ -143,7 +128,8 @@ impl<P: Port> Core<P> {
     /// stopped is done with. `Idle` comes exactly where there is no resident, and leaves the port as it is.
     /// `TraceEnds` and `TraceDiffers` come only where, before that, the next turn asks an operation that the
     /// port refuses so, as port and ticket stand at the end; `Memory` comes only where memory may be wanting
-    /// for the next turn.
+    /// for the next turn. Exactly where the resident begins a turn that reads or writes vectors, it owns the
+    /// bank from the first of these on; else the owner stays. One that stops owns the bank no more.
     pub fn run(&mut self, port: &mut P, k: u32) -> CoreRun
         requires belong { BelongTo (λ t. (P.tells t).name) (P.name port.old) (core_state self.old) }
         ensures run { RunsCore (λ t. P.refuses port.new t)
@@ -152,7 +138,8 @@ impl<P: Port> Core<P> {
         ensures idle { result.why ≡ RunWhy.Idle → port.new ≡ port.old }
         ensures name { P.name port.new ≡ P.name port.old }
         ensures belong { BelongTo (λ t. (P.tells t).name) (P.name port.old) (core_state self.new) }
-        ensures owner { owner_of self.new ≡ None }
+        ensures owner { OwnerWith k (core_state self.old).residents (core_state self.old) (owner_of self.old)
+            (core_state self.new) (owner_of self.new) result }
     {
         if self.residents.is_empty() {
             return CoreRun {
@@ -160,9 +147,9 @@ impl<P: Port> Core<P> {
                 why: RunWhy::Idle,
             };
         }
-        let run = run_first(&mut self.residents[0], &mut self.bank, port, k);
+        let run = run_first(&mut self.residents, &mut self.bank, port, k);
         if is_stop(run.why) {
-            retire(&mut self.residents, &mut self.done);
+            retire(&mut self.residents, &mut self.bank, &mut self.done);
         }
         run
     }
@@ -185,20 +172,20 @@ impl<P: Port> Core<P> {
         true
     }
 
-    /// Takes the first resident out, with its vectors and ZA at home; `None` exactly where there is none.
+    /// Takes the first resident out, with its vectors and ZA at home, and it owns the bank no more; `None`
+    /// exactly where there is none.
     pub fn evict(&mut self) -> Option<Whole<P>>
         ensures taken { IfSome result (λ w. core_state self.old
             ≡ with_first (held_by w) (core_state self.new)) }
         ensures config { IfSome result (λ w. config_of w.context ≡ (core_state self.old).config) }
         ensures none { result ≡ None → (core_state self.old).residents ≡ [] }
         ensures unchanged { result ≡ None → core_state self.new ≡ core_state self.old }
-        ensures owner { owner_of self.new ≡ None }
+        ensures owner { owner_of self.new ≡ freed_by (core_state self.old).residents (owner_of self.old) }
     {
         if self.residents.is_empty() {
             return None;
         }
-        let Resident { context, ticket } = self.residents.remove(0);
-        Some(Whole { context, ticket })
+        Some(take_first(&mut self.residents, &mut self.bank))
     }
 
     /// Takes a thread out that has stopped; `None` exactly where there is none.

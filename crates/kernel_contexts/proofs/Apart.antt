@@ -24,7 +24,7 @@ use Rattle.kernel_contexts.specs.Owned.{TurnOwns}
 use Rattle.kernel_contexts.specs.declared.context.Turn.{Turn}
 use Rattle.kernel_contexts.specs.declared.context.Turn.TheVariants as turns
 
-kept_no : (apart needs call ret : Bool) → (apart && needs) ≡ false → call ≡ false → (apart && (needs || (call && ret))) ≡ false
+pub kept_no : (apart needs call ret : Bool) → (apart && needs) ≡ false → call ≡ false → (apart && (needs || (call && ret))) ≡ false
 kept_no false needs call ret h k = refl
 kept_no true true call ret h k = cc
 kept_no true false true ret h k = cc

@@ -14,3 +14,5 @@ pub mod Several
 pub mod Wanting
 pub mod Owned
 pub mod Apart
+pub mod FromStart
+pub mod LooseParts

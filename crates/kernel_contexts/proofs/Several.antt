@@ -1,6 +1,7 @@
 -- Instructions that are executed before the watched count are turns that go on.
 use Rattle.std.proofs.Common.{◌≡◌, ℕ, zero, suc, min, ◌+◌, ◌-◌, ◌≤◌, ◌<◌, Bool, true, false, Option, None, List, [], length, ap, sym, ◌∙◌}
 use Rattle.std.proofs.Common.{subst, arith}
+use Rattle.std.specs.Prelude.{◌&&◌}
 use Rattle.std.proofs.lemmas.Grind.{common_steps}
 use Rattle.std.proofs.lemmas.List.{append-nil}
 use Rattle.sm_types.specs.declared.config.Config.{Config}
@@ -12,15 +13,19 @@ use Rattle.mem_access.specs.declared.bank.Bank.{Bank}
 use Rattle.shared_region.specs.Tickets.{Refusals}
 use Rattle.machine_step.specs.ProcessorState.{ProcessorState, vector_bytes}
 use Rattle.machine_step.specs.Effect.{Becomes, effect_of}
+use Rattle.machine_step.specs.Needs.{needs_bank, is_call_at, is_calls}
 use Rattle.machine_step.specs.Several.{AreExecuted}
+use Rattle.machine_step.proofs.Calls.{call_told}
 use Rattle.kernel_contexts.specs.Owner.{owns, is_owner}
 use Rattle.kernel_contexts.specs.State.{State}
 use Rattle.kernel_contexts.specs.Call.{Goes}
 use Rattle.kernel_contexts.specs.Turn.{turn_of, after_effect}
 use Rattle.kernel_contexts.specs.Watch.{IsWatched}
-use Rattle.kernel_contexts.specs.Several.{GoesBy, counted_by}
+use Rattle.kernel_contexts.specs.Needs.{needs_vectors}
+use Rattle.kernel_contexts.specs.Several.{GoesApart, counted_by}
 use Rattle.kernel_contexts.specs.Standing.{IsRunOf}
 use Rattle.kernel_contexts.specs.declared.context.Turn.TheVariants.{Ran}
+use Rattle.kernel_contexts.proofs.Apart.{kept_no, needs_executes}
 use Rattle.kernel_contexts.proofs.Kept.{run_goes_on}
 use Rattle.kernel_contexts.proofs.Turns.{turn_executes}
 use Rattle.kernel_contexts.proofs.Watched.{no_poll, no_delivery, unpolled}
@@ -55,39 +60,55 @@ module _ (config : Config) (thread events watch : ℕ) (s : State) (h : IsWatche
       ∙ ap Goes (sym (same_counted s core false (s.count + suc n) (s.count + n + 1) (s.turns + suc n) (s.turns + n + 1)
       (unpolled s.polled s.count watch h.here (omega (arith, l))) (omega arith) (omega arith)))
 
-  pub executed_goes : (n : ℕ) (core : ProcessorState) → s.count + n ≤ watch → AreExecuted (vector_bytes config.vl) n s.core core
-      → GoesBy config thread events n s (counted_by n s core)
-  executed_goes zero core l e =
+  -- which needs vectors where it needs a bank
+  one_unneeded : (apart : Bool) (n : ℕ) (before core : ProcessorState) → s.count + suc n ≤ watch
+      → effect_of (vector_bytes config.vl) before ≡ Becomes core → (apart && needs_bank before) ≡ false
+      → (apart && needs_vectors config (counted_by n s before)) ≡ false
+  one_unneeded apart n before core l e kept =
+      let t = counted_by n s before in
+      let here : IsWatched config t.count watch t.polled = watched_on config s.count watch s.polled n h (omega (arith, l)) in
+      let low : t.count < watch = omega (arith, l) in
+      ap (λ b. apart && b) (needs_executes config t (λ is. omega (arith, is, h.budget, l)) (no_poll config t watch here low)
+      (no_delivery config t watch here low))
+      ∙ kept_no apart (needs_bank before) (is_call_at before) _ kept (sym (call_told (vector_bytes config.vl) before) ∙ ap is_calls e)
+
+  pub executed_goes : (apart : Bool) (n : ℕ) (core : ProcessorState) → s.count + n ≤ watch
+      → AreExecuted apart (vector_bytes config.vl) n s.core core → GoesApart apart config thread events n s (counted_by n s core)
+  executed_goes apart zero core l e =
       let none : s.count + 0 ≡ s.count = omega arith in
       let still : s.turns + 0 ≡ s.turns = omega arith in
       λ i. record s { core = e i; count = none i; turns = still i }
-  executed_goes (suc n) core l e =
-      (counted_by n s e.0, executed_goes n e.0 (omega (arith, l)) e.1, one_executed n e.0 core l e.2)
+  executed_goes apart (suc n) core l e = (
+    counted_by n s e.0,
+    executed_goes apart n e.0 (omega (arith, l)) e.1,
+    one_executed n e.0 core l e.2,
+    one_unneeded apart n e.0 core l e.2 e.3,
+  )
 
 -- the same with VL of another name, from a core and a state that are known by their parts
-pub executed_as : (vl given : VecLen) (n : ℕ) (old new : ProcessorState) → given ≡ vl → AreExecuted (vector_bytes vl) n old new
-    → AreExecuted (vector_bytes given) n old new
-executed_as vl given n old new is h = subst (λ (l : VecLen). AreExecuted (vector_bytes l) n old new) (sym is) h
+pub executed_as : (apart : Bool) (vl given : VecLen) (n : ℕ) (old new : ProcessorState) → given ≡ vl
+    → AreExecuted apart (vector_bytes vl) n old new → AreExecuted apart (vector_bytes given) n old new
+executed_as apart vl given n old new is h = subst (λ (l : VecLen). AreExecuted apart (vector_bytes l) n old new) (sym is) h
 
 -- no port is asked
 pub nothing_refused : Refusals
 nothing_refused = record { ends = λ op. ⊥; strays = λ op. ⊥; takes_memory = ⊥ }
 
 -- a run of a program goes on by them
-pub run_goes_by : (program : Program) (config : Config) (thread : ℕ) (old new : State) (journal : List Event)
+pub run_goes_by : (apart : Bool) (program : Program) (config : Config) (thread : ℕ) (old new : State) (journal : List Event)
     (stop : Option Stop) (n : ℕ) → stop ≡ None → IsRunOf program config thread journal old stop
-    → GoesBy config thread (length journal) n old new → IsRunOf program config thread journal new stop
-run_goes_by program config thread old new journal stop zero runs h goes =
+    → GoesApart apart config thread (length journal) n old new → IsRunOf program config thread journal new stop
+run_goes_by apart program config thread old new journal stop zero runs h goes =
     subst (λ (s : State). IsRunOf program config thread journal s stop) (sym goes) h
-run_goes_by program config thread old new journal stop (suc n) runs h goes =
+run_goes_by apart program config thread old new journal stop (suc n) runs h goes =
     run_goes_on program config thread nothing_refused goes.0 new journal journal [] stop stop Ran
-    (run_goes_by program config thread old goes.0 journal stop n runs h goes.1) runs (sym (append-nil journal))
+    (run_goes_by apart program config thread old goes.0 journal stop n runs h goes.1) runs (sym (append-nil journal))
     (goes.2, runs)
 
--- the thread owns the bank still
-pub owned_on : (bank after : Bank) (thread number : ℕ) → after.owner ≡ bank.owner → number ≡ thread → owns bank thread ≡ true
-    → owns after number ≡ true
-owned_on bank after thread number owner same h =
+-- the thread owns the bank still, or does not own it
+pub owned_on : (bank after : Bank) (thread number : ℕ) (owned : Bool) → after.owner ≡ bank.owner → number ≡ thread
+    → owns bank thread ≡ owned → owns after number ≡ owned
+owned_on bank after thread number owned owner same h =
     ap (λ (n : ℕ). owns after n) same ∙ ap (λ (o : Option ℕ). is_owner o thread) owner ∙ h
 
 -- no more than are left up to the watched count

@@ -16,7 +16,7 @@ use Rattle.mem_access.specs.declared.bank.Bank.{Bank}
 use Rattle.machine_step.specs.ProcessorState.{VectorState}
 use Rattle.machine_step.specs.declared.machine.Machine.{Machine}
 use Rattle.kernel_contexts.specs.State.{State}
-pub use Rattle.kernel_contexts.specs.Guest.{guest_state, held_state, bare_state}
+pub use Rattle.kernel_contexts.specs.Guest.{guest_state, held_state, bare_state, guest_events}
 use Rattle.kernel_contexts.specs.SaveArea.{HasLengths, IsFit}
 use Rattle.kernel_contexts.specs.Needs.{needs_vectors}
 use Rattle.kernel_contexts.specs.Wanting.{TurnWants}
@@ -206,7 +206,7 @@ LacksUnless false turn = turn ≡ Memory
 
 -- the turn of a guest thread, on a bank
 abbrev pub guest_turn : GuestThread → Bank → TurnEnd
-guest_turn g bank = turn_of g.config g.number (length g.journal.items) (held_state g bank)
+guest_turn g bank = turn_of g.config g.number (guest_events g) (held_state g bank)
 
 -- its journal's list has a place that is not used
 abbrev pub HasFreePlace : GuestThread → Type 0
@@ -215,12 +215,12 @@ HasFreePlace g = vec_len g.journal < vec_capacity g.journal
 -- its call of the kernel, before which it leaves Streaming SVE mode
 abbrev pub guest_call : GuestThread → Bank → TurnEnd
 guest_call g bank =
-    call_of g.config g.number (length g.journal.items) (held_state g bank)
+    call_of g.config g.number (guest_events g) (held_state g bank)
     (outside_streaming g.config (held_state g bank))
 
 -- the instruction that it executes
 abbrev pub guest_instruction : GuestThread → Bank → TurnEnd
-guest_instruction g bank = instruction_of g.config g.number (length g.journal.items) (held_state g bank)
+guest_instruction g bank = instruction_of g.config g.number (guest_events g) (held_state g bank)
 
 -- a turn that asks nothing, of a guest thread and a bank before and after
 abbrev pub Takes : Type 0 → TurnEnd → GuestThread → Bank → GuestThread → Bank → Turn → Type 0
@@ -284,10 +284,12 @@ TurnsOn (Some stop) refusals old before new after turn =
     (turn ≡ Stopped stop) × (state_on new after ≡ state_on old before) × (journal_of new ≡ journal_of old)
     × (stop_of new ≡ Some stop)
 
--- the options and the number of a guest thread are those of its start
+-- the options and the number of a guest thread are those of its start, and where it began stays
 pub record IsSameGuest (old new : GuestThread) : Type 0 where
   pub config : new.config ≡ old.config
   pub number : new.number ≡ old.number
+  pub earlier : new.earlier ≡ old.earlier
+  pub begun : new.begun ≡ old.begun
 
 -- and its journal grows by the events that it made, which a port gave it
 pub record Grows (gives : ℕ → List Event → Type 0) (old new : GuestThread) : Type 0 where
@@ -299,6 +301,8 @@ pub record Grows (gives : ℕ → List Event → Type 0) (old new : GuestThread)
 pub record IsQuietGuest (old new : GuestThread) : Type 0 where
   pub config : new.config ≡ old.config
   pub number : new.number ≡ old.number
+  pub earlier : new.earlier ≡ old.earlier
+  pub begun : new.begun ≡ old.begun
   pub journal : new.journal.items ≡ old.journal.items
 
 -- the options, the thread and the image of a context are those of its start

@@ -1,6 +1,6 @@
 -- What a guest thread is, as the kernel keeps it.
 use Rattle.paged_memory.specs.Image.{Program}
-use Rattle.std.specs.Prelude.{◌≡◌, Bool, true, []}
+use Rattle.std.specs.Prelude.{◌≡◌, ℕ, ◌+◌, length, Bool, true, []}
 use Rattle.std.specs.Coded.{→_prop}
 use Rattle.mem_access.specs.Bank.{bank_state}
 use Rattle.mem_access.specs.declared.bank.Bank.{Bank}
@@ -25,6 +25,15 @@ guest_state g bank = record {
   count = g.count;
   turns = g.turns;
 }
+
+-- the events so far, from the start of its journal: those before the ones that it keeps, and these
+abbrev pub guest_events : GuestThread → ℕ
+guest_events g = g.earlier + length g.journal.items
+
+-- it began at its start: its journal has all its events, and its count explains its turns
+pub record IsFromStart (g : GuestThread) : Type 0 where
+  pub earlier : g.earlier ≡ 0
+  pub begun : g.begun ≡ 0
 
 -- with the vectors of a bank
 abbrev pub held_state : GuestThread → Bank → State

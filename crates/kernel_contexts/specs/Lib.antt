@@ -19,3 +19,6 @@ pub mod Context
 pub mod Output
 pub mod Watch
 pub mod Asked
+pub mod LooseState
+pub mod LooseParts
+pub mod Loose

@@ -1,7 +1,7 @@
 //! Contexts and their turns.
 ghost use Rattle.std.specs.Prelude.{◌≡◌, ◌+◌, ◌*◌, ◌<◌, ◌≤◌, ◌++◌, [], length, None, Some, IfOk};
-ghost use Rattle.std.specs.Prelude.{true, false, ℕ, slice_get};
-ghost use Rattle.kernel_contexts.specs.Guest.{IsHomeRun, one_home_run};
+ghost use Rattle.std.specs.Prelude.{true, false, not, ℕ, slice_get};
+ghost use Rattle.kernel_contexts.specs.Guest.{IsFromStart, IsHomeRun, one_home_run};
 ghost use Rattle.kernel_contexts.specs.SaveArea.{IsSaveArea};
 ghost use Rattle.kernel_contexts.specs.Owner.{owns};
 
@@ -46,6 +46,7 @@ pub struct Context {
     home: bool,
     image: Image,
     ghost fits: { IsSaveArea home guest.config guest.machine save_area },
+    ghost from_start: { IsFromStart guest },
     pub ghost is_run: { IsHomeRun home image guest save_area } by { one_home_run home image guest save_area },
 }
 
@@ -82,7 +83,7 @@ impl Context {
     ghost use Rattle.kernel_contexts.specs.Context.{writes_of_turn, pages_of};
     ghost use Rattle.paged_memory.specs.PageTable.{KeepsOwned};
     ghost use Rattle.kernel_contexts.specs.Owned.{TurnOwns};
-    ghost use Rattle.kernel_contexts.specs.Several.{GoesBy};
+    ghost use Rattle.kernel_contexts.specs.Several.{GoesBy, GoesApart};
     ghost use Rattle.kernel_contexts.specs.SaveArea.{HasLengths};
     ghost use Rattle.mem_access.specs.Bank.{bank_state};
     ghost use Rattle.machine_step.specs.Machine.{IsSameBank};
@@ -173,7 +174,8 @@ impl Context {
         ensures same { IsSameThread self.old self.new }
         ensures home { is_home self.new ≡ true }
     {
-        self.guest.make_several_turns(&mut self.save_area, most)
+        self.guest
+            .make_several_turns(&mut self.save_area, false, most)
     }
 
     /// Makes one turn on the bank of a core, as `advance` does on the save area. The context is home and its
@@ -225,23 +227,29 @@ impl Context {
         }
     }
 
-    /// Makes turns of a thread that has not stopped, as `advance_several` does, on the bank of a core, which
-    /// the thread owns.
+    /// Makes turns of a thread that has not stopped, as `advance_several` does, on the bank of a core; where
+    /// the thread does not own it, none that reads or writes vectors.
     pub fn advance_several_on(&mut self, bank: &mut Bank, most: u32) -> u32
         requires on { IsOn self.old bank.old }
-        requires owned { owns bank.old (thread_of self.old) ≡ true }
         requires runs { stop_of self.old ≡ None }
-        ensures turns { GoesBy (config_of self.old) (thread_of self.old) (length (journal_of self.old)) result
-            (state_on self.old bank.old) (state_on self.new bank.new) }
+        ensures turns { GoesApart (not (owns bank.old (thread_of self.old))) (config_of self.old)
+            (thread_of self.old) (length (journal_of self.old)) result (state_on self.old bank.old)
+            (state_on self.new bank.new) }
         ensures few { result ≤ most }
         ensures owned { KeepsOwned (pages_of self.old) (pages_of self.new) }
         ensures stop { stop_of self.new ≡ None }
         ensures on { IsOn self.new bank.new }
         ensures bank { IsSameBank bank.old bank.new }
+        ensures apart { owns bank.old (thread_of self.old) ≡ false → bank.new ≡ bank.old }
         ensures journal { journal_of self.new ≡ journal_of self.old }
         ensures same { IsSameThread self.old self.new }
     {
-        self.guest.make_several_turns(bank, most)
+        if is_owned(bank, self.guest.number) {
+            self.guest.make_several_turns(bank, false, most)
+        } else {
+            self.guest
+                .make_several_turns(&mut self.save_area, true, most)
+        }
     }
 
     /// Moves the vectors and ZA of the context into a bank without an owner, which is then its thread's.

@@ -11,6 +11,7 @@ ghost use Rattle.kernel_contexts.specs.Watch.{IsWatched, AreOfSignals, waiting};
 mod asking;
 mod call;
 mod signals;
+mod state;
 mod watch;
 
 use crate::context::Turn;
@@ -49,16 +50,21 @@ pub struct GuestThread {
     pub count: u32,
     pub turns: u64,
     pub stop: Option<Stop>,
+    /// The events that it made before those of the journal.
+    pub earlier: u32,
+    /// Turns that its count does not explain: those of the state in which it began.
+    pub begun: u64,
     ghost number_within: { number < config.threads },
     ghost watched: { IsWatched config count watch polled },
-    ghost turns_are_few: { turns ≤ 64 * count + waiting polled held },
-    ghost turns_within: { turns ≤ 64 * config.budget },
+    ghost turns_are_few: { turns ≤ begun + (64 * count + waiting polled held) },
+    ghost turns_within: { turns ≤ begun + 64 * config.budget },
+    ghost begun_within: { begun ≤ 64 * config.budget },
     ghost handlers_of_signals: { AreOfSignals (handlers_of handlers) },
     ghost unmasked_at_first: { version_of config ≡ One → mask ≡ 0 },
     ghost depth_within: { depth ≤ depth_limit (version_of config) },
     ghost within_budget: { count ≤ config.budget },
     ghost output_within: { vec_len output ≤ 1048576 },
-    ghost journal_within: { vec_len journal ≤ 262144 },
+    ghost journal_within: { earlier + vec_len journal ≤ 262144 },
 }
 
 /// The events that a journal may hold.
@@ -86,12 +92,12 @@ fn start_registers(entry: u64, thread: u32, threads: u32) -> Scalars
 impl GuestThread {
     ghost use Rattle.kernel_contexts.specs.State.{start_state};
     ghost use Rattle.kernel_contexts.specs.Call.{counted};
-    ghost use Rattle.kernel_contexts.specs.Several.{GoesBy, counted_by};
+    ghost use Rattle.kernel_contexts.specs.Several.{GoesApart, counted_by};
     ghost use Rattle.kernel_contexts.specs.Turn.{outside_streaming};
     ghost use Rattle.kernel_contexts.specs.Context.{held_state, bare_state, guest_turn, guest_instruction};
     ghost use Rattle.kernel_contexts.specs.SaveArea.{IsFit, ComesBack};
     ghost use Rattle.mem_access.specs.VectorState.{zero_bank};
-    ghost use Rattle.kernel_contexts.specs.Guest.{guest_state};
+    ghost use Rattle.kernel_contexts.specs.Guest.{guest_state, guest_events, IsFromStart};
     ghost use Rattle.std.specs.Prelude.{◌&&◌, ◌==◌, slice_index};
     ghost use Rattle.kernel_contexts.specs.KernelCall.{return_number};
     ghost use Rattle.kernel_contexts.specs.Needs.{needs_vectors, instruction_needs};
@@ -122,6 +128,7 @@ impl GuestThread {
         ensures number { IfOk result (λ g. g.number ≡ number) }
         ensures journal { IfOk result (λ g. g.journal.items ≡ []) }
         ensures stop { IfOk result (λ g. g.stop ≡ None) }
+        ensures whole { IfOk result IsFromStart }
     {
         let pages = Pages::from_image(alloc, image)?;
         let decoder = Decoder::new(alloc)?;
@@ -149,7 +156,17 @@ impl GuestThread {
             count: 0,
             turns: 0,
             stop: None,
+            earlier: 0,
+            begun: 0,
         })
+    }
+
+    /// The events that it made so far, from the start of its journal.
+    #[inline]
+    pub fn events(&self) -> usize
+        ensures { result ≡ guest_events self.now }
+    {
+        self.earlier as usize + self.journal.len()
     }
 
     /// Makes one turn of a thread that has not stopped. Up to the watched count it is an instruction. Where
@@ -191,11 +208,11 @@ impl GuestThread {
     }
 
     /// Makes turns of a thread that has not stopped, `most` at most, and tells how many: instructions that
-    /// are executed at once, up to the watched count, at which alone something else may be due. Owned pages
-    /// stay owned.
-    pub fn make_several_turns(&mut self, bank: &mut Bank, most: u32) -> u32
+    /// are executed at once, up to the watched count, at which alone something else may be due; where `apart`
+    /// says that the thread is kept off its vectors, none that reads or writes them. Owned pages stay owned.
+    pub fn make_several_turns(&mut self, bank: &mut Bank, apart: bool, most: u32) -> u32
         requires { IsFit self.old.config self.old.machine bank.old }
-        ensures turns { GoesBy self.old.config self.old.number (length self.old.journal.items) result
+        ensures turns { GoesApart apart self.old.config self.old.number (guest_events self.old) result
             (held_state self.old bank.old) (held_state self.new bank.new) }
         ensures few { result ≤ most }
         ensures count { self.new.count ≡ self.old.count + result }
@@ -207,7 +224,8 @@ impl GuestThread {
     {
         let quiet = self.watch - self.count;
         let decoder = &mut self.decoder;
-        let made = self.machine.step_several(decoder, bank, most.min(quiet));
+        let most = most.min(quiet);
+        let made = self.machine.step_several(decoder, bank, apart, most);
         self.count_turns(made);
         made
     }
@@ -360,7 +378,7 @@ impl GuestThread {
         if self.journal.reserve(1).is_err() {
             return self.lack(apart);
         }
-        let room = self.journal.len() < JOURNAL_LIMIT;
+        let room = self.events() < JOURNAL_LIMIT;
         let decoder = &mut self.decoder;
         match self
             .machine
@@ -435,7 +453,7 @@ impl GuestThread {
     fn go_on(&mut self, event: Option<Event>) -> Turn
         requires count { self.old.count < self.old.config.budget }
         requires room { vec_len self.old.journal < vec_capacity self.old.journal }
-        requires within { vec_len self.old.journal + length (events_of event) ≤ 262144 }
+        requires within { self.old.earlier + vec_len self.old.journal + length (events_of event) ≤ 262144 }
         ensures answer { result ≡ Turn.Ran }
         ensures state { bare_state self.new ≡ counted (bare_state self.old) (bare_state self.old).core }
         ensures machine { self.new.machine ≡ self.old.machine }

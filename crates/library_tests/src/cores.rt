@@ -1,7 +1,9 @@
 //! Guest threads on several cores: two workers that run at once, a queue and a core that are empty, and a
 //! core that is full.
-ghost use Rattle.std.specs.Prelude.{◌≡◌, ◌<◌};
+ghost use Rattle.std.specs.Prelude.{◌≡◌, ◌<◌, ◌≤◌, ℕ};
 ghost use Rattle.kernel_contexts.specs.Context.{config_of, thread_of};
+ghost use Rattle.core_unit.specs.CoreState.{IsAbsent};
+ghost use Rattle.core_unit.specs.View.{core_state};
 
 use core_unit::Core;
 use edge_io::Gate;
@@ -31,7 +33,7 @@ const HEAD: [u8; 96] = [
 const ENDS: [u32; 3] = [0xd2800540, 0xd2800ba8, 0xd4000001];
 
 /// A program file of that code.
-fn file_of(rt: &impl Stops, alloc: Global, code: &[u32]) -> Vec<u8> {
+pub fn file_of(rt: &impl Stops, alloc: Global, code: &[u32]) -> Vec<u8> {
     let mut file = Vec::new(alloc);
     let size = (code.len() as u64).wrapping_mul(4).to_le_bytes();
     for part in [&HEAD[..], &size, &size, &[4, 0, 0, 0, 0, 0, 0, 0]] {
@@ -173,6 +175,28 @@ fn unstarted(
     Whole { context, ticket }
 }
 
+/// A core with the threads below that number as its residents, in their order.
+pub fn core_of(
+    rt: &impl Stops,
+    alloc: Global,
+    image: &Image,
+    config: &Config,
+    port: &PlainPort,
+    threads: u32,
+) -> Core<PlainPort>
+    requires few { threads ≤ 8 }
+    requires those { threads ≤ config.now.threads }
+    ensures options { (core_state result).config ≡ config.now }
+    ensures absent { (t : ℕ) → threads ≤ t → IsAbsent t (core_state result) }
+{
+    let mut core = Core::new(alloc, 0, config, port).ok().expect(rt, "memory");
+    'threads: for thread in 0..threads {
+        let whole = unstarted(rt, alloc, image, config, thread);
+        assert!(rt; core.admit(whole).is_ok());
+    }
+    core
+}
+
 #[test]
 fn a_ninth_context_is_handed_back(rt: HostRuntime) {
     let alloc = rt.alloc();
@@ -181,13 +205,7 @@ fn a_ninth_context_is_handed_back(rt: HostRuntime) {
     let mut config = Config::defaults();
     config.threads = 9;
     let port = PlainPort::new(alloc).ok().expect(&rt, "memory");
-    let mut core = Core::new(alloc, 0, &config, &port)
-        .ok()
-        .expect(&rt, "memory");
-    'threads: for thread in 0..8 {
-        let whole = unstarted(&rt, alloc, &image, &config, thread);
-        assert!(rt; core.admit(whole).is_ok());
-    }
+    let mut core = core_of(&rt, alloc, &image, &config, &port, 8);
     assert_eq!(rt; core.residents(), 8);
     let ninth = unstarted(&rt, alloc, &image, &config, 8);
     let back = core.admit(ninth).err().expect(&rt, "a core that is full");

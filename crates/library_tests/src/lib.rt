@@ -1,10 +1,12 @@
-//! Tests of the libraries by their public calls, of what no line of data reaches: banks, memory, vectors, the
-//! runs of one thread, the lines of stops, the shared words, host threads that reach them at once, guest
-//! threads on several cores, the object of a source, and lazy saving of ZA.
+//! Tests of the libraries by their public calls, of what no line of data reaches: banks, and which thread owns
+//! that of a core, memory, vectors, the runs of one thread, the lines of stops, the shared words, host threads
+//! that reach them at once, guest threads on several cores, the object of a source, and lazy saving of ZA.
 #![tactic(auto)]
 
 #[cfg(test)]
 mod banks;
+#[cfg(test)]
+mod core_banks;
 #[cfg(test)]
 mod cores;
 #[cfg(test)]

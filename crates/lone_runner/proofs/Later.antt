@@ -36,7 +36,7 @@ module _ (program : Program) (config : Config) (thread : ℕ) (journal : List Ev
   counted_at m = (state_at (reach program config thread journal m)).count
 
   -- where it goes on after so many turns, it has gone on before
-  at_before : (m n : ℕ) (r : Reached) (s : State) (used : ℕ) (left : List Event) → m ≤ n → reach program config thread journal m ≡ r
+  pub at_before : (m n : ℕ) (r : Reached) (s : State) (used : ℕ) (left : List Event) → m ≤ n → reach program config thread journal m ≡ r
       → reach program config thread journal n ≡ At s used left → (count : ℕ) → s.count ≤ count
       → parting_at count (reach program config thread journal m) ≡ None
   at_before m n (At t done rest) s used left l at there count most =

@@ -2,7 +2,7 @@
 ghost use Rattle.std.specs.Prelude.{◌≡◌, ◌≢◌, ◌+◌, ◌*◌, ◌<◌, ◌≤◌, ◌^◌, ◌++◌, length, None, Ok, Err, IfOk, IfErr};
 ghost use Rattle.kernel_contexts.specs.Context.{state_of, config_of, stop_of, journal_of, IsSameThread};
 ghost use Rattle.kernel_contexts.specs.Context.{IsPlaceFree, MayWantMemory, GoesOrAsks, turn_at, save_area_of};
-ghost use Rattle.lone_runner.specs.Parting.{left_over, parting_at};
+ghost use Rattle.lone_runner.specs.Parting.{left_over, parting_at, parting_when};
 ghost use Rattle.lone_runner.specs.Replayed.{HasTicket, IsAstray, next_place, place_of};
 
 use crate::fault::AloneFault;
@@ -70,18 +70,17 @@ fn left_over(ticket: &ReplayTicket) -> Option<AloneFault>
     }
 }
 
-/// How the thread parts where it stands, if it does; `stop` tells whether it has stopped.
+/// How a thread that has counted so many instructions parts, if it does; `stop` tells whether it has stopped.
 #[inline]
-pub fn parting(
-    context: &Context,
+pub fn parting_of(
+    made: u32,
     ticket: &ReplayTicket,
     stop: Option<Stop>,
     count: u32,
 ) -> Option<AloneFault>
-    requires { HasTicket context.now ticket.now }
-    ensures { result ≡ parting_at count (place_of context.now ticket.now stop) }
+    requires { length ticket.now.ahead < 2 ^ 32 }
+    ensures { result ≡ parting_when count made stop ticket.now.ahead }
 {
-    let made = context.count();
     let Some(stop) = stop else {
         return if made > count {
             Some(AloneFault::GoesOn(count))
@@ -96,4 +95,18 @@ pub fn parting(
         return Some(AloneFault::GoesOn(count));
     }
     left_over(ticket)
+}
+
+/// How the thread parts where it stands, if it does; `stop` tells whether it has stopped.
+#[inline]
+pub fn parting(
+    context: &Context,
+    ticket: &ReplayTicket,
+    stop: Option<Stop>,
+    count: u32,
+) -> Option<AloneFault>
+    requires { HasTicket context.now ticket.now }
+    ensures { result ≡ parting_at count (place_of context.now ticket.now stop) }
+{
+    parting_of(context.count(), ticket, stop, count)
 }

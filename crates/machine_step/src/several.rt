@@ -1,9 +1,10 @@
 //! Several instructions that are executed at once, one after the other, with no look at what else may be due.
-ghost use Rattle.std.specs.Prelude.{◌≡◌, ◌≤◌};
+ghost use Rattle.std.specs.Prelude.{◌≡◌, ◌≤◌, ◌&&◌, false};
 ghost use Rattle.paged_memory.specs.PageTable.{KeepsOwned};
 ghost use Rattle.mem_access.specs.Bank.{bank_state};
 ghost use Rattle.machine_step.specs.ProcessorState.{vector_bytes};
 ghost use Rattle.machine_step.specs.Effect.{effect_of};
+ghost use Rattle.machine_step.specs.Needs.{needs_bank};
 ghost use Rattle.machine_step.specs.Machine.{core_of, AttemptsOn, IsInMode, IsSameBank};
 ghost use Rattle.machine_step.specs.Several.{AreExecuted};
 
@@ -14,11 +15,18 @@ use mem_access::Bank;
 
 impl Machine {
     /// Executes instructions one after the other, `most` at most, and tells how many. It ends before one that
-    /// is not executed at once, that may raise or ask, or for which memory is wanting. Owned pages stay owned;
-    /// which come to them, the single step says.
-    pub fn step_several(&mut self, decoder: &mut Decoder, bank: &mut Bank, most: u32) -> u32
+    /// is not executed at once, that may raise or ask, or for which memory is wanting; and, where `apart` says
+    /// that the machine is kept off the bank, before one that needs a bank. Owned pages stay owned; which come
+    /// to them, the single step says.
+    pub fn step_several(
+        &mut self,
+        decoder: &mut Decoder,
+        bank: &mut Bank,
+        apart: bool,
+        most: u32,
+    ) -> u32
         requires { IsInMode bank.old self.old }
-        ensures executed { AreExecuted (vector_bytes bank.old.vectors.vl) result
+        ensures executed { AreExecuted apart (vector_bytes bank.old.vectors.vl) result
             (core_of self.old (bank_state bank.old)) (core_of self.new (bank_state bank.new)) }
         ensures few { result ≤ most }
         ensures owned { KeepsOwned self.old.pages self.new.pages }
@@ -27,7 +35,7 @@ impl Machine {
     {
         let mut done = 0;
         'steps: while done < most {
-            match self.step_at_once(decoder, bank) {
+            match self.step_at_once(decoder, bank, apart) {
                 Attempt::Done => done += 1,
                 Attempt::Waits => return done,
                 Attempt::Memory => return done,
@@ -38,9 +46,11 @@ impl Machine {
 
     /// Executes the instruction at PC at once, where it is one of these.
     #[inline(always)]
-    fn step_at_once(&mut self, decoder: &mut Decoder, bank: &mut Bank) -> Attempt
+    fn step_at_once(&mut self, decoder: &mut Decoder, bank: &mut Bank, apart: bool) -> Attempt
         requires { IsInMode bank.old self.old }
         ensures effect { AttemptsOn effect_of self.old bank.old self.new bank.new result }
+        ensures kept { result ≡ Attempt.Done
+            → (apart && needs_bank (core_of self.old (bank_state bank.old))) ≡ false }
         ensures owned { KeepsOwned self.old.pages self.new.pages }
         ensures same { IsSameBank bank.old bank.new }
         ensures mode { IsInMode bank.new self.new }
@@ -53,6 +63,9 @@ impl Machine {
         let Some(insn) = known.instruction(word) else {
             return Attempt::Waits;
         };
+        if self.wants(insn, apart) {
+            return Attempt::Waits;
+        }
         self.execute_at_once(word, insn, bank)
     }
 }

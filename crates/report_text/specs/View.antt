@@ -1,8 +1,12 @@
--- The state that a view shows.
+-- The state and the block that a view shows.
+use Rattle.std.specs.Prelude.{ℕ, List}
+use Rattle.sm_types.specs.declared.version.Version.{Version}
 use Rattle.mem_access.specs.Bank.{bank_state}
 use Rattle.machine_step.specs.Machine.{core_of}
 use Rattle.kernel_contexts.specs.State.{State}
 use Rattle.kernel_contexts.specs.HandlerTable.{handlers_of}
+use Rattle.report_text.specs.Block.{block_text}
+use Rattle.report_text.specs.declared.view.BlockView.{BlockView}
 use Rattle.report_text.specs.declared.view.StateView.{StateView}
 
 abbrev pub state_seen : StateView → State
@@ -17,3 +21,8 @@ state_seen view = record {
   count = view.count;
   turns = view.turns;
 }
+
+-- in a version of the report
+abbrev pub block_seen : Version → BlockView → List ℕ
+block_seen version view =
+    block_text version view.thread (state_seen view.state) view.stop view.journal.now

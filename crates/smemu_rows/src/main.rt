@@ -2,7 +2,8 @@
 //! argument is a sort of lines, `=` and the name of a file of them:
 //!
 //! - `rows`: files and sources, each with a command, and the text and the status that it is to answer;
-//! - `altered`: reports with one change, which are replayed;
+//! - `changed`: files with changes, each with what a command answers to it;
+//! - `failing`: rows whose reads and writes fail in turn;
 //! - `words`: words that mean instructions, each with its text, from which the word is read;
 //! - `texts`: words with texts from which they are read, and that are printed exactly where the line says so;
 //! - `no-row`: words that mean none;
@@ -13,9 +14,11 @@
 //! A line that cannot be read is shown as one that differs.
 #![tactic(auto)]
 
-mod altered;
+mod changed;
+mod failing;
 mod faults;
 mod fields;
+mod files;
 mod outcome;
 mod pages;
 mod rows;
@@ -23,7 +26,8 @@ mod state;
 mod steps;
 mod words;
 
-use crate::altered::compare_altered;
+use crate::changed::compare_changed;
+use crate::failing::compare_failing;
 use crate::faults::check_faults;
 use crate::rows::compare_rows;
 use crate::steps::{check_differing, check_steps};
@@ -44,7 +48,8 @@ fn compare<R: Files + Print + AllocGlobal + Threads + Wait + Sync>(
     let text = file.as_str();
     match sort {
         "rows" => compare_rows(rt, text),
-        "altered" => compare_altered(rt, text),
+        "changed" => compare_changed(rt, name, text),
+        "failing" => compare_failing(rt, text),
         "words" => check_words(rt, text),
         "texts" => check_texts(rt, text),
         "no-row" => check_no_row(rt, text),

@@ -1,7 +1,10 @@
 //! Tests of the command, of what no row reaches: where the outside fails, its words, files that are too long,
-//! and programs that run until their journal is full; and of the outside itself.
+//! programs that run until their journal is full, and runs that are to use all their cores; and of the
+//! outside itself.
 #![tactic(auto)]
 
+#[cfg(test)]
+mod cores;
 #[cfg(test)]
 mod outside;
 #[cfg(test)]
@@ -9,7 +12,7 @@ mod programs;
 
 #[cfg(test)]
 mod tests {
-    use edge_io::{MemFiles, MemSink, OpenGate};
+    use edge_io::{Gate, MemFiles, MemSink, OpenGate};
     use smemu::{Status, refuse_foreign_word, smemu_main};
     use std::alloc::Global;
     use std::sync::Wait;
@@ -119,12 +122,24 @@ mod tests {
         Ok(words)
     }
 
-    fn answer_file(alloc: Global) -> Result<MemFiles, Fail> {
+    pub fn answer_file(alloc: Global) -> Result<MemFiles, Fail> {
         let mut files = MemFiles::new(alloc);
         for name in ["answer", "", "run", "--vl"] {
             files.add(name, &ANSWER)?;
         }
         Ok(files)
+    }
+
+    /// The status of the command of these words, on cores that pass a gate.
+    pub fn status_with<R: AllocGlobal + Threads + Wait + Sync, G: Gate + Sync>(
+        rt: &R,
+        texts: &[&str],
+        files: &mut MemFiles,
+        out: &mut MemSink,
+        gate: &G,
+    ) -> Result<Status, Fail> {
+        let words = words(rt.alloc(), texts)?;
+        Ok(smemu_main(rt, rt.alloc(), words.as_slice(), files, out, gate))
     }
 
     pub fn status_of<R: AllocGlobal + Threads + Wait + Sync>(
@@ -133,8 +148,7 @@ mod tests {
         files: &mut MemFiles,
         out: &mut MemSink,
     ) -> Result<Status, Fail> {
-        let words = words(rt.alloc(), texts)?;
-        Ok(smemu_main(rt, rt.alloc(), words.as_slice(), files, out, &OpenGate))
+        status_with(rt, texts, files, out, &OpenGate)
     }
 
     #[test]

@@ -9,7 +9,7 @@ mod words;
 
 pub use forms::{FieldKind, Form, LineKind, Often, form_of, state_lines};
 pub use lines::{
-    hex32_digits, hex64_digits, put_counted, put_flag_line, put_flags_line, put_hex_line,
+    flag_digit, hex32_digits, hex64_digits, put_counted, put_flag_line, put_flags_line, put_hex_line,
     put_number_line, put_value_lines,
 };
-pub use words::{put_event_words, put_stop_line, put_stop_words};
+pub use words::{put_event_words, put_exception, put_stop_line, put_stop_words};

@@ -1,5 +1,5 @@
 //! Operations that the kernel itself asks of a port: polls and posts.
-ghost use Rattle.std.specs.Prelude.{◌≡◌, ◌<◌, length, None, Err, false};
+ghost use Rattle.std.specs.Prelude.{◌≡◌, ◌<◌, None, Err, false};
 ghost use Rattle.shared_region.specs.Tickets.{IsTicketOf, GivesEvents};
 ghost use Rattle.shared_region.specs.WordRule.{HasWord};
 ghost use Rattle.kernel_contexts.specs.Asked.{refused_turn};
@@ -33,7 +33,7 @@ impl GuestThread {
     ghost use Rattle.kernel_contexts.specs.Turn.{poll_of};
     ghost use Rattle.kernel_contexts.specs.Asked.{Asked, Refuses, with_place};
     ghost use Rattle.kernel_contexts.specs.Context.{bare_state, guest_made, IsQuietGuest, TurnsOver};
-    ghost use Rattle.kernel_contexts.specs.Guest.{guest_state};
+    ghost use Rattle.kernel_contexts.specs.Guest.{guest_state, guest_events};
     ghost use Rattle.machine_step.specs.ProcessorState.{VectorState};
     ghost use Rattle.kernel_contexts.specs.Context.{Grows, HasFreePlace, GoesOrAsks};
 
@@ -47,7 +47,7 @@ impl GuestThread {
         requires place { HasWord op }
         requires ticket { IsTicketOf self.old.number (P.name port.old) (P.tells ticket.old) }
         ensures made { Asked (with_place (HasFreePlace self.old) (P.refuses port.old ticket.old)) op
-            self.old.journal.items (guest_made self.old self.new) result }
+            (guest_events self.old) (guest_made self.old self.new) result }
         ensures state { bare_state self.new ≡ bare_state self.old }
         ensures machine { self.new.machine ≡ self.old.machine }
         ensures stop { self.new.stop ≡ self.old.stop }
@@ -55,7 +55,7 @@ impl GuestThread {
         ensures grows { Grows (λ thread events. GivesEvents P.gives P.name P.tells thread events port.old
             ticket.old port.new ticket.new) self.old self.new }
     {
-        if self.journal.len() >= JOURNAL_LIMIT {
+        if self.events() >= JOURNAL_LIMIT {
             return Err(Refusal::Full);
         }
         if self.journal.reserve(1).is_err() {
@@ -92,14 +92,14 @@ impl GuestThread {
         requires polled { self.old.polled ≡ false }
         requires ticket { IsTicketOf self.old.number (P.name port.old) (P.tells ticket.old) }
         ensures turn { (v : VectorState) → TurnsOver (P.refuses port.old ticket.old)
-            (poll_of self.old.number (length self.old.journal.items) (guest_state self.old v))
+            (poll_of self.old.number (guest_events self.old) (guest_state self.old v))
             (guest_state self.old v) (guest_state self.new v) (guest_made self.old self.new) self.new.stop
             result }
         ensures memory { result ≡ Turn.Memory → HasFreePlace self.old
             → (P.refuses port.old ticket.old).takes_memory }
         ensures goes { (v : VectorState) → result ≡ Turn.Memory → HasFreePlace self.old
             → GoesOrAsks (P.refuses port.old ticket.old).takes_memory
-            (poll_of self.old.number (length self.old.journal.items) (guest_state self.old v)) }
+            (poll_of self.old.number (guest_events self.old) (guest_state self.old v)) }
         ensures machine { self.new.machine ≡ self.old.machine }
         ensures grows { Grows (λ thread events. GivesEvents P.gives P.name P.tells thread events port.old
             ticket.old port.new ticket.new) self.old self.new }

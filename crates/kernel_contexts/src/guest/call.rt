@@ -111,6 +111,7 @@ impl GuestThread {
     ghost use Rattle.kernel_contexts.specs.KernelCall.{call_numbered, write_number};
     ghost use Rattle.sm_types.specs.Options.{version_of};
     ghost use Rattle.kernel_contexts.specs.Turn.{outside_streaming};
+    ghost use Rattle.kernel_contexts.specs.Guest.{guest_events};
     ghost use Rattle.kernel_contexts.specs.Context.{held_state, guest_call, Takes, IsQuietGuest};
     ghost use Rattle.kernel_contexts.specs.SaveArea.{IsFit, ComesBack};
     ghost use Rattle.kernel_contexts.specs.Context.{GuestTurns, Grows, HasFreePlace, GoesOrAsks};
@@ -183,14 +184,14 @@ impl GuestThread {
         requires ticket { IsTicketOf self.old.number (P.name port.old) (P.tells ticket.old) }
         ensures turn { let before = held_state self.old bank.old in
             GuestTurns (P.refuses port.old ticket.old)
-            (post_of self.old.config (length self.old.journal.items) before
+            (post_of self.old.config (guest_events self.old) before
             (outside_streaming self.old.config before)) self.old bank.old self.new bank.new result }
         ensures pages { self.new.machine.pages ≡ self.old.machine.pages }
         ensures memory { result ≡ Turn.Memory → HasFreePlace self.old
             → (P.refuses port.old ticket.old).takes_memory }
         ensures goes { result ≡ Turn.Memory → HasFreePlace self.old
             → GoesOrAsks (P.refuses port.old ticket.old).takes_memory
-            (post_of self.old.config (length self.old.journal.items) (held_state self.old bank.old)
+            (post_of self.old.config (guest_events self.old) (held_state self.old bank.old)
             (outside_streaming self.old.config (held_state self.old bank.old))) }
         ensures back { ComesBack self.new.config self.new.machine bank.old bank.new }
         ensures grows { Grows (λ thread events. GivesEvents P.gives P.name P.tells thread events port.old

@@ -1,11 +1,14 @@
-use Rattle.std.proofs.Common.{◌<◌, length, arith}
-use Rattle.std.proofs.lemmas.Grind.{common_steps}
-use Rattle.core_unit.proofs.Cores.{cons_of, first_of}
+use Rattle.std.proofs.Common.{[], ◌∷◌, ap, sym, refl, subst, ◌∙◌}
+use Rattle.std.proofs.lemmas.List.{map-append}
+use Rattle.core_unit.specs.Residents.{HasRetired, held_at, held_home}
+use Rattle.core_unit.specs.View.{held_by}
 use Rattle.core_unit.proofs.unit.retire.Goals as goal
 
-pub invariant_of-push_reserved : goal.invariant_of-push_reserved
-invariant_of-push_reserved g c =
-    let r = c.remove-context.result in
-    let some : 0 < length c.args.residents.now.items = grind (arith, common_steps, c.requires.some) in
-    let split = cons_of c.args.residents.now.items r some c.remove-context.ensures.value in
-    record { home = c.requires.home r (first_of _ split.0 r split.1); number = r.number; journal = r.journal }
+pub returns-clause-retired : goal.returns-clause-retired
+returns-clause-retired g c =
+    subst (λ l. HasRetired l (held_home c.args.done.now.items) (held_at c.take_first-whole.new.bank c.take_first-whole.new.residents.items)
+    (held_home c.push_reserved.new.self.items)) (sym c.take_first-whole.ensures.taken) (
+      refl,
+      ap (λ l. held_home l) c.push_reserved.ensures.items
+          ∙ map-append (λ w. held_by w) c.args.done.now.items (c.take_first-whole.result ∷ []),
+    )

@@ -1,8 +1,15 @@
-use Rattle.std.proofs.Common.{◌∙◌, refl}
+use Rattle.std.proofs.Common.{◌∙◌, refl, false}
 use Rattle.kernel_contexts.specs.Context.{held_state}
+use Rattle.kernel_contexts.proofs.FromStart.{several_from_start, still_from_start}
 use Rattle.kernel_contexts.proofs.Kept.{run_same}
 use Rattle.kernel_contexts.proofs.Several.{run_goes_by}
 use Rattle.kernel_contexts.proofs.context.Context.advance_several.Goals as goal
+
+pub returns-clause-turns : goal.returns-clause-turns
+returns-clause-turns c =
+    let before = c.args.self.now in
+    several_from_start before.guest before.from_start false c.make_several_turns.result (held_state before.guest before.save_area)
+    (held_state c.make_several_turns.new.self c.make_several_turns.new.bank) c.make_several_turns.ensures.turns
 
 pub invariant_of-self : goal.invariant_of-self
 invariant_of-self c =
@@ -17,8 +24,11 @@ invariant_of-self c =
         mode = λ home. e.back.fit.mode;
         owner = e.back.same.owner ∙ before.fits.owner;
       };
+      from_start = still_from_start old new before.from_start e.same.earlier e.same.begun;
       is_run = λ home. run_same before.image old.config new.config old.number new.number old.journal.items new.journal.items
           (held_state new bank) (held_state new bank) old.stop new.stop e.same.config e.same.number e.same.journal refl e.stop
-          (run_goes_by before.image old.config old.number (held_state old before.save_area) (held_state new bank) old.journal.items
-          old.stop c.make_several_turns.result c.requires.runs (before.is_run home) e.turns);
+          (run_goes_by false before.image old.config old.number (held_state old before.save_area) (held_state new bank) old.journal.items
+          old.stop c.make_several_turns.result c.requires.runs (before.is_run home)
+          (several_from_start old before.from_start false c.make_several_turns.result (held_state old before.save_area)
+          (held_state new bank) e.turns));
     }

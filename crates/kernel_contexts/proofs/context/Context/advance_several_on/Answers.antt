@@ -1,27 +1,32 @@
-use Rattle.std.proofs.Common.{ℕ, refl, ap, sym, ◌∙◌}
+use Rattle.std.proofs.Common.{◌≡◌, ℕ, true, false, refl, ap, sym, ◌∙◌}
 use Rattle.std.specs.Prelude.{Option, not}
 use Rattle.kernel_contexts.specs.Owner.{owns, is_owner}
 use Rattle.kernel_contexts.specs.Context.{held_state}
+use Rattle.kernel_contexts.proofs.FromStart.{several_from_start, still_from_start}
 use Rattle.kernel_contexts.proofs.Kept.{run_same}
 use Rattle.kernel_contexts.proofs.Several.{run_goes_by, owned_on}
 use Rattle.kernel_contexts.proofs.context.Context.advance_several_on.Goals as goal
 
-pub returns-clause-turns : goal.returns-clause-turns
-returns-clause-turns c =
+pub returns-then-is_owned-clause-turns : goal.returns-then-is_owned-clause-turns
+returns-then-is_owned-clause-turns c =
     let e = c.make_several_turns.ensures in
     let new = c.make_several_turns.new.self in
     let after = c.make_several_turns.new.bank in
-    let owned = owned_on c.args.bank.now after c.args.self.now.guest.number new.number e.back.same.owner e.same.number c.requires.owned in
-    rw (c.requires.owned, owned) e.turns
+    let here : owns c.args.bank.now c.args.self.now.guest.number ≡ true = sym c.is_owned.ensures ∙ c.if-is_owned.true in
+    let owned = owned_on c.args.bank.now after c.args.self.now.guest.number new.number true e.back.same.owner e.same.number here in
+    let old = c.args.self.now in
+    rw (here, owned) (several_from_start old.guest old.from_start false c.make_several_turns.result (held_state old.guest c.args.bank.now)
+    (held_state new after) e.turns)
 
-pub returns-clause-on : goal.returns-clause-on
-returns-clause-on c =
+pub returns-then-is_owned-clause-on : goal.returns-then-is_owned-clause-on
+returns-then-is_owned-clause-on c =
     let before = c.args.self.now in
     let old = before.guest in
     let bank = c.args.bank.now in
     let new = c.make_several_turns.new.self in
     let after = c.make_several_turns.new.bank in
     let e = c.make_several_turns.ensures in
+    let here : owns bank old.number ≡ true = sym c.is_owned.ensures ∙ c.if-is_owned.true in
     record {
       lengths = e.back.fit.lengths;
       place = c.requires.on.place
@@ -30,6 +35,40 @@ returns-clause-on c =
       fit = λ _. e.back.fit;
       run = λ _. run_same before.image old.config new.config old.number new.number old.journal.items new.journal.items
           (held_state new after) (held_state new after) old.stop new.stop e.same.config e.same.number e.same.journal refl e.stop
-          (run_goes_by before.image old.config old.number (held_state old bank) (held_state new after) old.journal.items old.stop
-          c.make_several_turns.result c.requires.runs (c.requires.on.run c.requires.owned) e.turns);
+          (run_goes_by false before.image old.config old.number (held_state old bank) (held_state new after) old.journal.items old.stop
+          c.make_several_turns.result c.requires.runs (c.requires.on.run here)
+          (several_from_start old before.from_start false c.make_several_turns.result (held_state old bank) (held_state new after) e.turns));
+    }
+
+pub returns-else-is_owned-clause-turns : goal.returns-else-is_owned-clause-turns
+returns-else-is_owned-clause-turns c =
+    let made = c.make_several_turns-else-is_owned in
+    let here : owns c.args.bank.now c.args.self.now.guest.number ≡ false = sym c.is_owned.ensures ∙ c.if-is_owned.false in
+    let there = owned_on c.args.bank.now c.args.bank.now c.args.self.now.guest.number made.new.self.number false refl
+    made.ensures.same.number here in
+    let old = c.args.self.now in
+    rw (here, there) (several_from_start old.guest old.from_start true made.result (held_state old.guest old.save_area)
+    (held_state made.new.self made.new.bank) made.ensures.turns)
+
+pub invariant_of-self-else-is_owned : goal.invariant_of-self-else-is_owned
+invariant_of-self-else-is_owned c =
+    let before = c.args.self.now in
+    let old = before.guest in
+    let made = c.make_several_turns-else-is_owned in
+    let new = made.new.self in
+    let e = made.ensures in
+    record {
+      fits = record {
+        lengths = e.back.fit.lengths;
+        mode = λ home. e.back.fit.mode;
+        owner = e.back.same.owner ∙ before.fits.owner;
+      };
+      from_start = still_from_start old new before.from_start e.same.earlier e.same.begun;
+      is_run = λ home. run_same before.image old.config new.config old.number new.number old.journal.items new.journal.items
+          (held_state new made.new.bank) (held_state new made.new.bank) old.stop new.stop e.same.config e.same.number e.same.journal refl
+          e.stop
+          (run_goes_by true before.image old.config old.number (held_state old before.save_area) (held_state new made.new.bank)
+          old.journal.items old.stop made.result c.requires.runs (before.is_run home)
+          (several_from_start old before.from_start true made.result (held_state old before.save_area) (held_state new made.new.bank)
+          e.turns));
     }

@@ -8,6 +8,7 @@ use Rattle.kernel_contexts.specs.declared.kernel_call.KernelCall.{KernelCall}
 use Rattle.kernel_contexts.specs.declared.kernel_call.KernelCall.TheVariants.{Post}
 use Rattle.kernel_contexts.specs.Turn.{outside_streaming}
 use Rattle.kernel_contexts.specs.Call.{post_of}
+use Rattle.kernel_contexts.specs.Guest.{guest_events}
 use Rattle.kernel_contexts.specs.Context.{guest_call, held_state}
 use Rattle.kernel_contexts.proofs.Answered.{asked_nothing, made_nothing}
 use Rattle.kernel_contexts.proofs.Over.{turned_so}
@@ -19,16 +20,16 @@ use Rattle.kernel_contexts.proofs.guest.GuestThread.call.Goals as goal
 posts : (t : GuestThread) (bank : Bank) (version : Version) (given : KernelCall) → version ≡ version_of t.config
     → given ≡ call_numbered version (slice_index t.machine.scalars.x 8) → given ≡ Post
     → guest_call t bank
-    ≡ post_of t.config (length t.journal.items) (held_state t bank) (outside_streaming t.config (held_state t bank))
+    ≡ post_of t.config (guest_events t) (held_state t bank) (outside_streaming t.config (held_state t bank))
 posts t bank version given same numbered is =
-    call_is t.config t.number (length t.journal.items) (held_state t bank) (outside_streaming t.config (held_state t bank)) given Post
+    call_is t.config t.number (guest_events t) (held_state t bank) (outside_streaming t.config (held_state t bank)) given Post
     (numbered ∙ ap (λ (v : Version). call_numbered v (slice_index t.machine.scalars.x 8)) same) is
 
 pub returns-in-Post-clause-turn : goal.returns-in-Post-clause-turn
 returns-in-Post-clause-turn g c =
     let t = c.args.self.now in
     let before = held_state t c.args.bank.now in
-    turned_so _ (post_of t.config (length t.journal.items) before (outside_streaming t.config before)) (guest_call t c.args.bank.now) _
+    turned_so _ (post_of t.config (guest_events t) before (outside_streaming t.config before)) (guest_call t c.args.bank.now) _
     _ _ _ _
     (posts t c.args.bank.now c.version.result c.call_numbered-call.result c.version.ensures c.call_numbered-call.ensures c.in-Post.is)
     c.post.ensures.turn
@@ -58,7 +59,7 @@ returns-in-Post-clause-goes g c = λ wants free.
     let t = c.args.self.now in
     let before = held_state t c.args.bank.now in
     goes_so (g.P.Port.refuses c.args.port.now c.args.ticket.now).takes_memory
-    (post_of t.config (length t.journal.items) before (outside_streaming t.config before)) (guest_call t c.args.bank.now)
+    (post_of t.config (guest_events t) before (outside_streaming t.config before)) (guest_call t c.args.bank.now)
     (posts t c.args.bank.now c.version.result c.call_numbered-call.result c.version.ensures c.call_numbered-call.ensures c.in-Post.is)
     (c.post.ensures.goes wants free)
 

@@ -4,6 +4,7 @@ use Rattle.sm_types.specs.declared.stop.Stop.{Stop}
 use Rattle.std.proofs.Common.{Option}
 use Rattle.mem_access.specs.declared.bank.Bank.{Bank}
 use Rattle.kernel_contexts.specs.Call.{TurnEnd, called}
+use Rattle.kernel_contexts.specs.Guest.{guest_events}
 use Rattle.kernel_contexts.specs.Context.{Takes, Turns, guest_call, held_state}
 use Rattle.kernel_contexts.specs.KernelCall.{call_numbered}
 use Rattle.kernel_contexts.specs.State.{State}
@@ -30,12 +31,12 @@ with_memory wants end old new stopped Memory h = absurd h.0
 -- the turn of the call that it is
 takes_so : (wants : Type 0) (g : GuestThread) (bank : Bank) (h : GuestThread) (after : Bank) (turn : Turn) (given known : KernelCall)
     → given ≡ call_numbered (version_of g.config) (slice_index g.machine.scalars.x 8) → given ≡ known
-    → Takes wants (called g.config g.number (length g.journal.items) (held_state g bank)
+    → Takes wants (called g.config g.number (guest_events g) (held_state g bank)
     (outside_streaming g.config (held_state g bank)) known) g bank h after turn
     → Takes wants (guest_call g bank) g bank h after turn
 takes_so wants g bank h after turn given known numbered is so =
     subst (λ (end : TurnEnd). Takes wants end g bank h after turn)
-    (sym (call_is g.config g.number (length g.journal.items) (held_state g bank) (outside_streaming g.config (held_state g bank))
+    (sym (call_is g.config g.number (guest_events g) (held_state g bank) (outside_streaming g.config (held_state g bank))
     given known numbered is)) so
 
 pub write-requires-clause-number : goal.write-requires-clause-number

@@ -38,11 +38,11 @@ invariant_of-self-in-Ok-clause-turns_are_few c =
     ap (λ (s : State). s.held) c.release.ensures.state ∙ ap (λ k. t.held - 2 ^ k) (sym c.requires.lowest) in
     let waits : waiting n.polled n.held ≡ waiting true t.held + 1 =
     ap (λ b. waiting b n.held) polled ∙ ap (waiting true) held ∙ waiting_more t.held c.args.signal c.requires.held c.requires.known in
-    let before : t.turns ≤ 64 * t.count + waiting true t.held =
-    subst (λ b. t.turns ≤ 64 * t.count + waiting b t.held) due.polled t.turns_are_few in
+    let before : t.turns ≤ t.begun + (64 * t.count + waiting true t.held) =
+    subst (λ b. t.turns ≤ t.begun + (64 * t.count + waiting b t.held)) due.polled t.turns_are_few in
     let turns : n.turns ≡ t.turns = ap (λ (s : State). s.turns) c.release.ensures.state in
     let count : n.count ≡ t.count = ap (λ (s : State). s.count) c.release.ensures.state in
-    omega (arith, waits, before, turns, count)
+    omega (arith, waits, before, turns, count, c.release.ensures.same.begun)
 
 pub invariant_of-self-in-Ok-clause-turns_within : goal.invariant_of-self-in-Ok-clause-turns_within
 invariant_of-self-in-Ok-clause-turns_within c =
@@ -51,7 +51,7 @@ invariant_of-self-in-Ok-clause-turns_within c =
     let due : IsDue (bare_state t) = due_so t.config (bare_state t) c.requires.due in
     let turns : n.turns ≡ t.turns = ap (λ (s : State). s.turns) c.release.ensures.state in
     let budget : n.config.budget ≡ t.config.budget = ap (λ (k : Config). k.budget) c.release.ensures.same.config in
-    omega (arith, turns, budget, t.turns_are_few, waiting_small t.polled t.held, c.requires.count)
+    omega (arith, turns, budget, t.turns_are_few, waiting_small t.polled t.held, c.requires.count, c.release.ensures.same.begun)
 
 pub invariant_of-self-in-Ok-clause-unmasked_at_first : goal.invariant_of-self-in-Ok-clause-unmasked_at_first
 invariant_of-self-in-Ok-clause-unmasked_at_first c = λ first.

@@ -1,5 +1,6 @@
-use Rattle.std.proofs.Common.{◌≡◌, ◌++◌, length, vec_len, Some, refl, ap, sym, ◌∙◌, subst, arith}
+use Rattle.std.proofs.Common.{◌≡◌, ◌+◌, ◌++◌, List, length, vec_len, Some, refl, ap, sym, ◌∙◌, subst, arith}
 use Rattle.sm_types.specs.declared.length.VecLen.{VecLen}
+use Rattle.sm_types.specs.declared.shared_op.Event.{Event}
 use Rattle.sm_types.specs.declared.stop.Stop.TheVariants.{Raised, TraceFull}
 use Rattle.machine_step.specs.ProcessorState.{ProcessorState, vector_bytes}
 use Rattle.machine_step.specs.Effect.{effect_of}
@@ -11,6 +12,7 @@ use Rattle.kernel_contexts.specs.Call.{Ends, call_of}
 use Rattle.kernel_contexts.specs.Turn.{outside_streaming}
 use Rattle.shared_region.specs.Tickets.{Refusals}
 use Rattle.kernel_contexts.specs.KernelCall.{return_number}
+use Rattle.kernel_contexts.specs.Guest.{guest_events}
 use Rattle.kernel_contexts.specs.Context.{held_state, guest_instruction, guest_made, made_since, TurnsOver}
 use Rattle.kernel_contexts.proofs.Bare.{with_vectors}
 use Rattle.kernel_contexts.proofs.Turns.{executes_raises, executes_calls}
@@ -39,11 +41,11 @@ go_on-requires-clause-within g c =
     let k =
     not_kept c.args.apart (vector_bytes c.args.bank.now.vectors.vl) (held_state t c.args.bank.now).core
     _ _ _ (end.Next c.in-Next.event) (λ e. cc) refl c.in-Next.ensures.effect in
-    let n = vec_len c.reserve.new.self in
-    let count : c.len-room.result ≡ n = omega arith in
+    let n = t.earlier + vec_len c.reserve.new.self in
+    let count : c.events-room.result ≡ n = omega (arith, c.events-room.ensures) in
     event_fits _ _ (effect_of (vector_bytes c.args.bank.now.vectors.vl) (held_state t c.args.bank.now).core)
     (held_state t c.args.bank.now).core _ c.in-Next.event n n refl
-    (omega (arith, t.journal_within, c.reserve.ensures.len)) (room_left c.len-room.result n count) k.1
+    (omega (arith, t.journal_within, c.reserve.ensures.len)) (room_left c.events-room.result n count) k.1
 
 pub returns-in-Next-clause-turn : goal.returns-in-Next-clause-turn
 returns-in-Next-clause-turn g c =
@@ -51,12 +53,13 @@ returns-in-Next-clause-turn g c =
     let k =
     not_kept c.args.apart (vector_bytes c.args.bank.now.vectors.vl) (held_state t c.args.bank.now).core
     _ _ _ (end.Next c.in-Next.event) (λ e. cc) refl c.in-Next.ensures.effect in
-    let count : c.len-room.result ≡ length t.journal.items = omega (arith, ap length c.reserve.ensures.items) in
+    let count : c.events-room.result ≡ guest_events t =
+    c.events-room.ensures ∙ ap (λ (l : List Event). t.earlier + length l) c.reserve.ensures.items in
     unless_so _ _ _ _ _ _ _ _ k.0 (rw c.go_on.ensures.answer (
-      goes_over t.config t.number (length t.journal.items) (held_state t c.args.bank.now) _ _ _
+      goes_over t.config t.number (guest_events t) (held_state t c.args.bank.now) _ _ _
           (its_effect t c.args.bank.now c.requires.fit.lengths.vl) _
           (held_state c.go_on.new.self c.step_apart.new.bank) c.in-Next.event _
-          (room_left c.len-room.result (length t.journal.items) count)
+          (room_left c.events-room.result (guest_events t) count)
           k.1 (ap (with_vectors (bank_state c.step_apart.new.bank)) c.go_on.ensures.state)
           (made_events t.journal.items _ _ (c.go_on.ensures.journal ∙ ap (λ l. l ++ events_of c.in-Next.event) c.reserve.ensures.items)),
       c.go_on.ensures.stop ∙ c.requires.runs,
@@ -74,7 +77,7 @@ returns-in-Raise-clause-turn g c =
     (asked_nothing _ _ _ (held_state t c.args.bank.now) (held_state stop.new.self c.step_apart.new.bank) _ _ stop.result
     (made_nothing t.journal.items _ (stop.ensures.same.journal ∙ c.reserve.ensures.items))
     (stops_so ⊥ _ (held_state t c.args.bank.now) (held_state stop.new.self c.step_apart.new.bank) _ stop.result _ stop.ensures.answer
-    (executes_raises t.config t.number (length t.journal.items) (held_state t c.args.bank.now) _ _
+    (executes_raises t.config t.number (guest_events t) (held_state t c.args.bank.now) _ _
     (its_effect t c.args.bank.now c.requires.fit.lengths.vl ∙ h.0) h.1
     ∙ ap (λ s. Ends s (Raised c.in-Raise.exception c.step_apart.new.self.scalars.pc))
     (sym (ap (with_vectors (bank_state c.step_apart.new.bank)) stop.ensures.state)))
@@ -88,15 +91,16 @@ returns-in-NoRoom-clause-turn g c =
     _ _ _ end.NoRoom (λ e. cc) refl c.in-NoRoom.ensures.effect in
     let h = k.1 in
     let stop = c.stop_with-in-NoRoom in
-    let count : c.len-room.result ≡ length t.journal.items = omega (arith, ap length c.reserve.ensures.items) in
+    let count : c.events-room.result ≡ guest_events t =
+    c.events-room.ensures ∙ ap (λ (l : List Event). t.earlier + length l) c.reserve.ensures.items in
     unless_so _ _ _ _ _ _ _ _ k.0
     (asked_nothing _ _ _ (held_state t c.args.bank.now) (held_state stop.new.self c.step_apart.new.bank) _ _ stop.result
     (made_nothing t.journal.items _ (stop.ensures.same.journal ∙ c.reserve.ensures.items))
     (stops_so ⊥ _ (held_state t c.args.bank.now) (held_state stop.new.self c.step_apart.new.bank) _ stop.result TraceFull
     stop.ensures.answer
-    (full_over t.config t.number (length t.journal.items) (held_state t c.args.bank.now) _
+    (full_over t.config t.number (guest_events t) (held_state t c.args.bank.now) _
     (its_effect t c.args.bank.now c.requires.fit.lengths.vl)
-    (room_full c.len-room.result (length t.journal.items) count h.1) h.2
+    (room_full c.events-room.result (guest_events t) count h.1) h.2
     ∙ ap (λ (k : ProcessorState). Ends (record (held_state t c.args.bank.now) { core = k }) TraceFull) (sym h.0)
     ∙ ap (λ s. Ends s TraceFull) (sym (ap (with_vectors (bank_state c.step_apart.new.bank)) stop.ensures.state))) stop.ensures.stop))
 
@@ -107,11 +111,12 @@ returns-in-TraceEnds-clause-turn g c =
     not_kept c.args.apart (vector_bytes c.args.bank.now.vectors.vl) (held_state t c.args.bank.now).core
     _ _ _ end.TraceEnds (λ e. cc) refl c.in-TraceEnds.ensures.effect in
     let h = k.1 in
-    let count : c.len-room.result ≡ length t.journal.items = omega (arith, ap length c.reserve.ensures.items) in
+    let count : c.events-room.result ≡ guest_events t =
+    c.events-room.ensures ∙ ap (λ (l : List Event). t.earlier + length l) c.reserve.ensures.items in
     unless_so _ _ _ _ _ _ _ _ k.0 (
-      refused_over t.config t.number (length t.journal.items) (held_state t c.args.bank.now) _ _
+      refused_over t.config t.number (guest_events t) (held_state t c.args.bank.now) _ _
           (its_effect t c.args.bank.now c.requires.fit.lengths.vl)
-          (room_left c.len-room.result (length t.journal.items) count h.1) h.2,
+          (room_left c.events-room.result (guest_events t) count h.1) h.2,
       ap (λ (k : ProcessorState). record (held_state t c.args.bank.now) { core = k }) h.0,
       made_nothing t.journal.items _ c.reserve.ensures.items,
       c.requires.runs,
@@ -124,11 +129,12 @@ returns-in-TraceDiffers-clause-turn g c =
     not_kept c.args.apart (vector_bytes c.args.bank.now.vectors.vl) (held_state t c.args.bank.now).core
     _ _ _ end.TraceDiffers (λ e. cc) refl c.in-TraceDiffers.ensures.effect in
     let h = k.1 in
-    let count : c.len-room.result ≡ length t.journal.items = omega (arith, ap length c.reserve.ensures.items) in
+    let count : c.events-room.result ≡ guest_events t =
+    c.events-room.ensures ∙ ap (λ (l : List Event). t.earlier + length l) c.reserve.ensures.items in
     unless_so _ _ _ _ _ _ _ _ k.0 (
-      refused_over t.config t.number (length t.journal.items) (held_state t c.args.bank.now) _ _
+      refused_over t.config t.number (guest_events t) (held_state t c.args.bank.now) _ _
           (its_effect t c.args.bank.now c.requires.fit.lengths.vl)
-          (room_left c.len-room.result (length t.journal.items) count h.1) h.2,
+          (room_left c.events-room.result (guest_events t) count h.1) h.2,
       ap (λ (k : ProcessorState). record (held_state t c.args.bank.now) { core = k }) h.0,
       made_nothing t.journal.items _ c.reserve.ensures.items,
       c.requires.runs,
@@ -243,10 +249,11 @@ returns-else-is_kept_from-clause-turn g c =
     (held_state c.call.new.self c.call.new.bank) (guest_made t c.call.new.self) c.call.new.self.stop c.call.result)
     (λ i. g.P.Port.refuses (sym chain.0 i) (sym chain.1 i))
     (over_as _ _ _ _ _ _ _ _ _ c.call.result
-    (executes_calls t.config t.number (length t.journal.items) (held_state t c.args.bank.now)
+    (executes_calls t.config t.number (guest_events t) (held_state t c.args.bank.now)
     (core_of c.step_apart.new.self (bank_state c.step_apart.new.bank)) _
     (its_effect t c.args.bank.now c.requires.fit.lengths.vl ∙ h.0) h.1
-    ∙ ap (λ n. call_of t.config t.number n after (outside_streaming t.config after)) (sym (ap length c.reserve.ensures.items)))
+    ∙ ap (λ (l : List Event). call_of t.config t.number (t.earlier + length l) after (outside_streaming t.config after))
+    (sym c.reserve.ensures.items))
     (ap (λ (p : ProcessorState). record (held_state t c.args.bank.now) { core = p }) (sym h.1))
     (ap (λ l. made_since l c.call.new.self.journal.items) (sym c.reserve.ensures.items)) c.call.ensures.turn))
 

@@ -4,8 +4,9 @@ use Rattle.mem_access.specs.Bank.{bank_state}
 use Rattle.machine_step.specs.Machine.{core_of}
 use Rattle.machine_step.specs.declared.machine.Machine.{Machine}
 use Rattle.kernel_contexts.specs.State.{State}
+use Rattle.kernel_contexts.specs.Guest.{guest_events}
 use Rattle.kernel_contexts.specs.Context.{held_state}
-use Rattle.kernel_contexts.specs.Several.{GoesBy}
+use Rattle.kernel_contexts.specs.Several.{GoesApart}
 use Rattle.kernel_contexts.proofs.Bare.{with_vectors, back_with}
 use Rattle.kernel_contexts.proofs.Several.{executed_goes, executed_as, up_to}
 use Rattle.kernel_contexts.proofs.guest.GuestThread.make_several_turns.Goals as goal
@@ -17,11 +18,11 @@ returns-clause-turns c =
     let step = c.step_several-made in
     let v = bank_state step.new.bank in
     let s = held_state t bank in
-    subst (λ (u : State). GoesBy t.config t.number (length t.journal.items) step.result s u)
+    subst (λ (u : State). GoesApart c.args.apart t.config t.number (guest_events t) step.result s u)
     (sym (ap (with_vectors v) c.count_turns.ensures.state))
-    (executed_goes t.config t.number (length t.journal.items) t.watch s t.watched step.result (core_of step.new.self v)
-    (up_to c.args.most t.watch t.count step.result c.min.result t.watched.within c.min.ensures step.ensures.few)
-    (executed_as bank.vectors.vl t.config.vl step.result s.core (core_of step.new.self v) (sym c.requires.lengths.vl)
+    (executed_goes t.config t.number (guest_events t) t.watch s t.watched c.args.apart step.result (core_of step.new.self v)
+    (up_to c.args.most t.watch t.count step.result c.min-most.result t.watched.within c.min-most.ensures step.ensures.few)
+    (executed_as c.args.apart bank.vectors.vl t.config.vl step.result s.core (core_of step.new.self v) (sym c.requires.lengths.vl)
     step.ensures.executed))
 
 pub returns-clause-back : goal.returns-clause-back

@@ -1,8 +1,9 @@
-use Rattle.std.proofs.Common.{◌∙◌, ap, sym, length, arith}
+use Rattle.std.proofs.Common.{◌∙◌, ◌+◌, ap, sym, length, arith}
 use Rattle.std.specs.Prelude.{◌&&◌}
 use Rattle.mem_access.specs.Bank.{bank_state}
 use Rattle.kernel_contexts.specs.State.{State}
 use Rattle.kernel_contexts.specs.Turn.{turn_of}
+use Rattle.kernel_contexts.specs.Guest.{guest_events}
 use Rattle.kernel_contexts.specs.Context.{guest_turn, guest_instruction, held_state, made_since}
 use Rattle.kernel_contexts.proofs.Answered.{made_nothing}
 use Rattle.kernel_contexts.proofs.Apart.{unless_as, unless_so, needed_so, over_as, needs_executes}
@@ -20,7 +21,7 @@ returns-then-self-clause-turn g c =
     unless_as _ _ _ (guest_instruction t c.args.bank.now) (guest_turn t c.args.bank.now) _ _ _ _ _
     (ap (λ b. c.args.apart && b) (needs_executes t.config s (λ e. omega (arith, e, t.watched.budget, c.if-self.true))
     (no_poll t.config s t.watch t.watched c.if-self.true) (no_delivery t.config s t.watch t.watched c.if-self.true)))
-    (turn_executes t.config t.number (length t.journal.items) s (λ e. omega (arith, e, t.watched.budget, c.if-self.true))
+    (turn_executes t.config t.number (guest_events t) s (λ e. omega (arith, e, t.watched.budget, c.if-self.true))
     (no_poll t.config s t.watch t.watched c.if-self.true) (no_delivery t.config s t.watch t.watched c.if-self.true))
     c.execute.ensures.turn
 
@@ -37,7 +38,7 @@ returns-then-self-clause-goes g c = λ wants free.
     let s = held_state t c.args.bank.now in
     goes_so (g.P.Port.refuses c.args.port.now c.args.ticket.now).takes_memory (guest_instruction t c.args.bank.now)
     (guest_turn t c.args.bank.now)
-    (turn_executes t.config t.number (length t.journal.items) s (λ e. omega (arith, e, t.watched.budget, c.if-self.true))
+    (turn_executes t.config t.number (guest_events t) s (λ e. omega (arith, e, t.watched.budget, c.if-self.true))
     (no_poll t.config s t.watch t.watched c.if-self.true) (no_delivery t.config s t.watch t.watched c.if-self.true))
     (c.execute.ensures.goes wants free)
 
@@ -66,7 +67,7 @@ returns-clause-turn g c =
     unless_so _ _ _ _ _ _ _ _ (sym (seen.needs here) ∙ c.if-wants_vectors.false)
     (over_as _ (guest_turn mid c.args.bank.now) (guest_turn t c.args.bank.now) (held_state mid c.args.bank.now)
     (held_state t c.args.bank.now) _ _ _ _ made.result
-    (λ i. turn_of (sym seen.same.config i) (sym seen.same.number i) (length (sym seen.same.journal i))
+    (λ i. turn_of (sym seen.same.config i) (sym seen.same.number i) (sym seen.same.earlier i + length (sym seen.same.journal i))
     (sym (ap (with_vectors here) seen.state) i))
     (sym (ap (with_vectors here) seen.state)) (ap (λ l. made_since l made.new.self.journal.items) (sym seen.same.journal))
     made.ensures.turn)
@@ -85,6 +86,6 @@ returns-clause-goes g c = λ wants free.
     let here = bank_state c.args.bank.now in
     goes_so (g.P.Port.refuses c.args.port.now c.args.ticket.now).takes_memory (guest_turn mid c.args.bank.now)
     (guest_turn t c.args.bank.now)
-    (λ i. turn_of (sym seen.same.config i) (sym seen.same.number i) (length (sym seen.same.journal i))
+    (λ i. turn_of (sym seen.same.config i) (sym seen.same.number i) (sym seen.same.earlier i + length (sym seen.same.journal i))
     (sym (ap (with_vectors here) seen.state) i))
     (c.make_watched_turn.ensures.goes wants (seen.free free))

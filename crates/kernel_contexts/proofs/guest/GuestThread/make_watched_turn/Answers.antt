@@ -2,6 +2,7 @@ use Rattle.std.proofs.Common.{◌≡◌, true, false, length, ap, sym, ◌∙◌
 use Rattle.sm_types.specs.declared.stop.Stop.TheVariants.{Budget}
 use Rattle.kernel_contexts.specs.Call.{Ends}
 use Rattle.kernel_contexts.specs.Turn.{is_poll_due, is_delivery_due, poll_of, delivery_of}
+use Rattle.kernel_contexts.specs.Guest.{guest_events}
 use Rattle.kernel_contexts.specs.Context.{guest_turn, guest_instruction, held_state}
 use Rattle.kernel_contexts.proofs.Answered.{stops_so, asked_nothing, made_nothing}
 use Rattle.mem_access.specs.Bank.{bank_state}
@@ -21,15 +22,15 @@ returns-then-self-clause-turn g c =
     (made_nothing t.journal.items _ c.stop_with.ensures.same.journal)
     (stops_so ⊥ _ (held_state t c.args.bank.now) (held_state c.stop_with.new.self c.args.bank.now) _ c.stop_with.result Budget
     c.stop_with.ensures.answer
-    (turn_spent t.config t.number (length t.journal.items) (held_state t c.args.bank.now) c.if-self.true
+    (turn_spent t.config t.number (guest_events t) (held_state t c.args.bank.now) c.if-self.true
     ∙ ap (λ s. Ends s Budget) (sym (ap (with_vectors (bank_state c.args.bank.now)) c.stop_with.ensures.state))) c.stop_with.ensures.stop)
 
 pub returns-then-is_poll_due-clause-turn : goal.returns-then-is_poll_due-clause-turn
 returns-then-is_poll_due-clause-turn g c =
     let t = c.args.self.now in
     let due : is_poll_due t.config (held_state t c.args.bank.now) ≡ true = sym c.is_poll_due.ensures ∙ c.if-is_poll_due.true in
-    turned_so _ (poll_of t.number (length t.journal.items) (held_state t c.args.bank.now)) (guest_turn t c.args.bank.now) _ _ _ _ _
-    (turn_polls t.config t.number (length t.journal.items) (held_state t c.args.bank.now) c.if-self.false due)
+    turned_so _ (poll_of t.number (guest_events t) (held_state t c.args.bank.now)) (guest_turn t c.args.bank.now) _ _ _ _ _
+    (turn_polls t.config t.number (guest_events t) (held_state t c.args.bank.now) c.if-self.false due)
     (c.poll.ensures.turn (bank_state c.args.bank.now))
 
 pub returns-then-is_delivery_due-clause-turn : goal.returns-then-is_delivery_due-clause-turn
@@ -38,7 +39,7 @@ returns-then-is_delivery_due-clause-turn g c =
     let none : is_poll_due t.config (held_state t c.args.bank.now) ≡ false = sym c.is_poll_due.ensures ∙ c.if-is_poll_due.false in
     let due : is_delivery_due t.config (held_state t c.args.bank.now) ≡ true = sym c.is_delivery_due.ensures ∙ c.if-is_delivery_due.true in
     turned_so _ (delivery_of t.config (held_state t c.args.bank.now)) (guest_turn t c.args.bank.now) _ _ _ _ _
-    (turn_delivers t.config t.number (length t.journal.items) (held_state t c.args.bank.now) c.if-self.false none due)
+    (turn_delivers t.config t.number (guest_events t) (held_state t c.args.bank.now) c.if-self.false none due)
     (asked_nothing _ _ _ (held_state t c.args.bank.now) (held_state c.deliver_signal.new.self c.deliver_signal.new.bank) _ _
     c.deliver_signal.result
     (made_nothing t.journal.items _ c.deliver_signal.ensures.same.journal) c.deliver_signal.ensures.turn)
@@ -49,7 +50,7 @@ returns-clause-turn g c =
     let none : is_poll_due t.config (held_state t c.args.bank.now) ≡ false = sym c.is_poll_due.ensures ∙ c.if-is_poll_due.false in
     let other : is_delivery_due t.config (held_state t c.args.bank.now) ≡ false = sym c.is_delivery_due.ensures ∙ c.if-is_delivery_due.false in
     turned_so _ (guest_instruction t c.args.bank.now) (guest_turn t c.args.bank.now) _ _ _ _ _
-    (turn_executes t.config t.number (length t.journal.items) (held_state t c.args.bank.now) c.if-self.false none other)
+    (turn_executes t.config t.number (guest_events t) (held_state t c.args.bank.now) c.if-self.false none other)
     c.execute.ensures.turn
 
 pub returns-then-is_poll_due-clause-memory : goal.returns-then-is_poll_due-clause-memory
@@ -73,9 +74,9 @@ returns-then-is_poll_due-clause-goes g c = λ wants free.
     let t = c.args.self.now in
     let due : is_poll_due t.config (held_state t c.args.bank.now) ≡ true = sym c.is_poll_due.ensures ∙ c.if-is_poll_due.true in
     goes_so (g.P.Port.refuses c.args.port.now c.args.ticket.now).takes_memory
-    (poll_of t.number (length t.journal.items) (held_state t c.args.bank.now))
+    (poll_of t.number (guest_events t) (held_state t c.args.bank.now))
     (guest_turn t c.args.bank.now)
-    (turn_polls t.config t.number (length t.journal.items) (held_state t c.args.bank.now) c.if-self.false due)
+    (turn_polls t.config t.number (guest_events t) (held_state t c.args.bank.now) c.if-self.false due)
     (c.poll.ensures.goes (bank_state c.args.bank.now) wants free)
 
 pub returns-then-is_delivery_due-clause-goes : goal.returns-then-is_delivery_due-clause-goes
@@ -86,7 +87,7 @@ returns-then-is_delivery_due-clause-goes g c = λ wants free.
     let new = c.deliver_signal.new.self in
     goes_so (g.P.Port.refuses c.args.port.now c.args.ticket.now).takes_memory (delivery_of t.config (held_state t c.args.bank.now))
     (guest_turn t c.args.bank.now)
-    (turn_delivers t.config t.number (length t.journal.items) (held_state t c.args.bank.now) c.if-self.false none due)
+    (turn_delivers t.config t.number (guest_events t) (held_state t c.args.bank.now) c.if-self.false none due)
     (quiet_goes _ _ (delivery_of t.config (held_state t c.args.bank.now)) (held_state t c.args.bank.now)
     (held_state new c.deliver_signal.new.bank) new.stop c.deliver_signal.result c.deliver_signal.ensures.turn wants)
 
@@ -97,7 +98,7 @@ returns-clause-goes g c = λ wants free.
     let other : is_delivery_due t.config (held_state t c.args.bank.now) ≡ false = sym c.is_delivery_due.ensures ∙ c.if-is_delivery_due.false in
     goes_so (g.P.Port.refuses c.args.port.now c.args.ticket.now).takes_memory (guest_instruction t c.args.bank.now)
     (guest_turn t c.args.bank.now)
-    (turn_executes t.config t.number (length t.journal.items) (held_state t c.args.bank.now) c.if-self.false none other)
+    (turn_executes t.config t.number (guest_events t) (held_state t c.args.bank.now) c.if-self.false none other)
     (c.execute.ensures.goes wants free)
 
 pub returns-then-self-clause-owned : goal.returns-then-self-clause-owned

@@ -9,6 +9,7 @@ use Rattle.shared_region.specs.declared.port.PortStop.TheVariants.{Memory}
 use Rattle.kernel_contexts.specs.State.{State}
 use Rattle.kernel_contexts.specs.Turn.{outside_streaming}
 use Rattle.kernel_contexts.specs.Call.{Goes, asking, may_post, post_op, post_of, returned}
+use Rattle.kernel_contexts.specs.Guest.{guest_events}
 use Rattle.kernel_contexts.specs.Context.{held_state, made_since, HasFreePlace}
 use Rattle.kernel_contexts.proofs.Answered.{asked_nothing, made_nothing}
 use Rattle.kernel_contexts.proofs.Calls.{post_asks, post_fails}
@@ -24,12 +25,12 @@ returns-in-Ok-clause-turn g c =
     let s = outside_streaming t.config (held_state t c.args.bank.now) in
     let x = t.machine.scalars.x in
     let may : may_post t.config x ≡ true = sym c.may_post.ensures.value ∙ c.if-not-may_post.false in
-    let events = length t.journal.items in
+    let events = guest_events t in
     let op = post_op (slice_index x 0) (slice_index x 1) in
     turned_so _ (asking events (held_state t c.args.bank.now) op (λ answer. returned s 0))
     (post_of t.config events (held_state t c.args.bank.now) s) _ _ _ _ _
     (post_asks t.config events (held_state t c.args.bank.now) s may)
-    (answered_after (HasFreePlace t) _ t.journal.items c.ask.new.self.journal.items _ (held_state t c.args.bank.now) _ op
+    (answered_after (HasFreePlace t) _ events t.journal.items c.ask.new.self.journal.items _ (held_state t c.args.bank.now) _ op
     (λ answer. returned s 0) c.in-Ok.field-0 _ _
     (rw c.post_op-op.ensures at c.in-Ok.ensures.made) c.return_with-in-Ok.ensures.same.journal
     (c.return_with-in-Ok.ensures.state
@@ -44,14 +45,14 @@ returns-in-Err-clause-turn g c =
     let s = outside_streaming t.config (held_state t c.args.bank.now) in
     let x = t.machine.scalars.x in
     let may : may_post t.config x ≡ true = sym c.may_post.ensures.value ∙ c.if-not-may_post.false in
-    let events = length t.journal.items in
+    let events = guest_events t in
     let op = post_op (slice_index x 0) (slice_index x 1) in
     turned_so _ (asking events (held_state t c.args.bank.now) op (λ answer. returned s 0))
     (post_of t.config events (held_state t c.args.bank.now) s) _ _ _ _ _
     (post_asks t.config events (held_state t c.args.bank.now) s may)
-    (refused_after (HasFreePlace t) _ t.journal.items c.ask.new.self.journal.items _ (held_state t c.args.bank.now) _ _ op
+    (refused_after (HasFreePlace t) _ events t.journal.items c.ask.new.self.journal.items _ (held_state t c.args.bank.now) _ _ op
     (λ answer. returned s 0) c.in-Err.refusal _ _
-    (subst (λ (o : SharedOp). Asked (with_place (HasFreePlace t) refusals) o t.journal.items
+    (subst (λ (o : SharedOp). Asked (with_place (HasFreePlace t) refusals) o events
     (made_since t.journal.items c.ask.new.self.journal.items)
     (Err c.in-Err.refusal))
     c.post_op-op.ensures c.in-Err.ensures.made) c.refuse.ensures.same.journal
@@ -65,7 +66,7 @@ returns-then-not-may_post-clause-turn g c =
     asked_nothing ⊥ _ _ (held_state t c.args.bank.now) (held_state c.return_with.new.self c.return_with.new.bank) _ _ c.return_with.result
     (made_nothing t.journal.items _ c.return_with.ensures.same.journal)
     (rw c.return_with.ensures.answer (
-      post_fails t.config (length t.journal.items) (held_state t c.args.bank.now) s may
+      post_fails t.config (guest_events t) (held_state t c.args.bank.now) s may
           ∙ ap Goes (sym c.return_with.ensures.state),
       c.return_with.ensures.stop,
     ))
@@ -78,7 +79,7 @@ returns-in-Err-clause-memory g c = λ wants free.
     refusal_wants c.in-Err.refusal (held_state c.ask.new.self c.args.bank.now) (held_state c.refuse.new.self c.args.bank.now)
     c.refuse.new.self.stop c.refuse.result
     (c.refuse.ensures.turn (bank_state c.args.bank.now)) wants in
-    let asked = subst (λ (r : Refusal). Asked (with_place (HasFreePlace t) refusals) c.post_op-op.result t.journal.items
+    let asked = subst (λ (r : Refusal). Asked (with_place (HasFreePlace t) refusals) c.post_op-op.result (guest_events t)
     (made_since t.journal.items c.ask.new.self.journal.items) (Err r)) is c.in-Err.ensures.made in
     asked.1 free
 
@@ -89,13 +90,13 @@ returns-in-Err-clause-goes g c = λ wants free.
     let s = outside_streaming t.config (held_state t c.args.bank.now) in
     let x = t.machine.scalars.x in
     let may : may_post t.config x ≡ true = sym c.may_post.ensures.value ∙ c.if-not-may_post.false in
-    let events = length t.journal.items in
+    let events = guest_events t in
     let op = post_op (slice_index x 0) (slice_index x 1) in
     let is : c.in-Err.refusal ≡ Port Memory =
     refusal_wants c.in-Err.refusal (held_state c.ask.new.self c.args.bank.now) (held_state c.refuse.new.self c.args.bank.now)
     c.refuse.new.self.stop c.refuse.result
     (c.refuse.ensures.turn (bank_state c.args.bank.now)) wants in
-    let asked = subst (λ (r : Refusal). Asked (with_place (HasFreePlace t) refusals) c.post_op-op.result t.journal.items
+    let asked = subst (λ (r : Refusal). Asked (with_place (HasFreePlace t) refusals) c.post_op-op.result (guest_events t)
     (made_since t.journal.items c.ask.new.self.journal.items) (Err r)) is c.in-Err.ensures.made in
     goes_so refusals.takes_memory (asking events (held_state t c.args.bank.now) op (λ answer. returned s 0))
     (post_of t.config events (held_state t c.args.bank.now) s)

@@ -1,10 +1,11 @@
-use Rattle.std.proofs.Common.{refl, Some, None}
+use Rattle.std.proofs.Common.{refl, sym, ap, ◌∙◌, Some, None}
+use Rattle.std.specs.Prelude.{◌&&◌}
 use Rattle.mem_access.specs.Bank.{bank_state}
 use Rattle.machine_step.specs.ProcessorState.{vector_bytes}
 use Rattle.machine_step.specs.Effect.{effect_of}
 use Rattle.machine_step.specs.Execution.{effect_of_insn}
 use Rattle.machine_step.specs.Machine.{core_of}
-use Rattle.machine_step.proofs.Answers.{effect_of_word}
+use Rattle.machine_step.proofs.Answers.{effect_of_word, needs_of_word}
 use Rattle.machine_step.proofs.Steps.{attempted_at}
 use Rattle.machine_step.proofs.Owned.{attempt_keeps}
 use Rattle.machine_step.specs.Owned.{writes_on}
@@ -18,6 +19,13 @@ returns-clause-effect c =
     (effect_of_word (vector_bytes c.args.bank.now.vectors.vl) (core_of c.args.self.now (bank_state c.args.bank.now)) c.in-Ok.word
     (Some c.in-Some.insn.now) h.0 h.1 c.in-Some.ensures)
     c.execute_at_once.ensures.effect
+
+pub returns-clause-kept : goal.returns-clause-kept
+returns-clause-kept c done =
+    let s = core_of c.args.self.now (bank_state c.args.bank.now) in
+    let h = c.in-Ok.ensures in
+    ap (λ b. c.args.apart && b) (needs_of_word s c.in-Ok.word (Some c.in-Some.insn.now) h.0 h.1 c.in-Some.ensures)
+    ∙ sym (c.wants.ensures (bank_state c.args.bank.now)) ∙ c.if-wants.false
 
 pub returns-clause-owned : goal.returns-clause-owned
 returns-clause-owned c =

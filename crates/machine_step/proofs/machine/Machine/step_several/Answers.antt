@@ -1,4 +1,4 @@
-use Rattle.std.proofs.Common.{add-one, ◌∙◌, arith}
+use Rattle.std.proofs.Common.{add-one, refl, ◌∙◌, arith}
 use Rattle.paged_memory.proofs.Owned.{kept_trans}
 use Rattle.mem_access.specs.Bank.{bank_state}
 use Rattle.machine_step.specs.Machine.{core_of}
@@ -10,8 +10,8 @@ steps-preserved c =
     let h = c.steps.invariant in
     let e = c.in-Done.ensures in
     record {
-      executed = rw add-one (executed_more c.args.bank.now.vectors.vl c.steps.done (core_of c.args.self.now (bank_state c.args.bank.now))
-          c.steps.self c.steps.bank c.step_at_once.new.self c.step_at_once.new.bank h.same.vl h.executed e.effect);
+      executed = rw add-one (executed_more c.args.apart c.args.bank.now.vectors.vl c.steps.done (core_of c.args.self.now (bank_state c.args.bank.now))
+          c.steps.self c.steps.bank c.step_at_once.new.self c.step_at_once.new.bank h.same.vl h.executed e.effect (e.kept refl));
       few = omega (arith, c.steps-test.true);
       owned = kept_trans c.args.self.now.pages c.steps.self.pages c.step_at_once.new.self.pages h.owned e.owned;
       same = record { vl = e.same.vl ∙ h.same.vl; svl = e.same.svl ∙ h.same.svl; owner = e.same.owner ∙ h.same.owner };

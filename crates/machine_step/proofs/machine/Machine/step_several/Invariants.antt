@@ -8,7 +8,7 @@ use Rattle.machine_step.proofs.machine.Machine.step_several.Given as goal
 
 abbrev pub invariant-steps : goal.invariant-steps
 invariant-steps l = record {
-  executed : AreExecuted (vector_bytes l.initial.bank.vectors.vl) l.done (core_of l.initial.self (bank_state l.initial.bank))
+  executed : AreExecuted l.apart (vector_bytes l.initial.bank.vectors.vl) l.done (core_of l.initial.self (bank_state l.initial.bank))
       (core_of l.self (bank_state l.bank));
   few : l.done ≤ l.most;
   owned : KeepsOwned l.initial.self.pages l.self.pages;

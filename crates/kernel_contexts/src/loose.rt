@@ -1,0 +1,203 @@
+//! The state of a guest thread that no run vouches for, and its turns.
+ghost use Rattle.std.specs.Prelude.{◌≡◌, ◌+◌, ◌*◌, ◌≤◌, length, None, IfOk, true};
+ghost use Rattle.kernel_contexts.specs.SaveArea.{IsSaveArea};
+
+use crate::context::Turn;
+use crate::guest::GuestThread;
+use crate::handlers::handler_of;
+use crate::loose_bank::bank_of;
+use crate::loose_state::LooseState;
+use machine_step::Machine;
+use mem_access::Bank;
+use shared_region::Port;
+use sm_types::{Config, Memory};
+use std::alloc::Global;
+
+/// A guest thread in some state, with its vectors, predicates, FFR and ZA. Its turns are those of a context,
+/// but it is no run of an image: where the state came from, nothing says.
+#[derive(Drop)]
+pub struct Loose {
+    guest: GuestThread,
+    bank: Bank,
+    ghost fits: { IsSaveArea true guest.config guest.machine bank },
+}
+
+impl Loose {
+    ghost use Rattle.std.specs.FinMap.{get};
+    ghost use Rattle.kernel_contexts.specs.HandlerTable.{handlers_of};
+    ghost use Rattle.kernel_contexts.specs.LooseState.{IsLooseState, HasFields};
+    ghost use Rattle.kernel_contexts.specs.Loose.{loose_state, loose_config, loose_thread, loose_events};
+    ghost use Rattle.kernel_contexts.specs.Loose.{loose_stop, loose_machine, loose_bank, loose_pages};
+    ghost use Rattle.kernel_contexts.specs.Loose.{loose_made, loose_turn, loose_writes, LooseTurns};
+    ghost use Rattle.kernel_contexts.specs.Loose.{IsLoosePlaceFree, LooseWants, IsSameLoose};
+    ghost use Rattle.kernel_contexts.specs.Context.{GoesOrAsks};
+    ghost use Rattle.kernel_contexts.specs.Several.{GoesBy};
+    ghost use Rattle.kernel_contexts.specs.Owned.{TurnOwns};
+    ghost use Rattle.paged_memory.specs.PageTable.{KeepsOwned};
+    ghost use Rattle.shared_region.specs.Tickets.{IsTicketOf, GivesEvents};
+
+    /// The thread that stands in the state of these fields, with these options, after so many events of its
+    /// journal. `Memory` is want of memory.
+    pub fn from_state(alloc: Global, state: LooseState, config: &Config) -> Result<Loose, Memory>
+        requires { IsLooseState config.now state }
+        ensures state { IfOk result (λ l. HasFields config.now state (loose_state l)) }
+        ensures config { IfOk result (λ l. loose_config l ≡ config.now) }
+        ensures thread { IfOk result (λ l. loose_thread l ≡ state.thread) }
+        ensures events { IfOk result (λ l. loose_events l ≡ state.events) }
+        ensures stop { IfOk result (λ l. loose_stop l ≡ None) }
+    {
+        let bank = bank_of(alloc, &state, config)?;
+        let guest = GuestThread::from_state(alloc, state, config)?;
+        Ok(Loose { guest, bank })
+    }
+
+    /// Makes one turn, in which the port answers what it asks of the shared words, and tells what it came to
+    /// as `Context::advance` does; a thread that has stopped answers its stop, and nothing changes.
+    #[inline(always)]
+    pub fn advance<P: Port>(&mut self, port: &mut P, ticket: &mut P::Ticket) -> Turn
+        requires { IsTicketOf (loose_thread self.old) (P.name port.old) (P.tells ticket.old) }
+        ensures turn { LooseTurns (loose_stop self.old) (P.refuses port.old ticket.old) self.old self.new
+            result }
+        ensures memory { result ≡ Turn.Memory
+            → LooseWants (P.refuses port.old ticket.old).takes_memory self.old }
+        ensures goes { result ≡ Turn.Memory → IsLoosePlaceFree self.old
+            → GoesOrAsks (P.refuses port.old ticket.old).takes_memory (loose_turn self.old) }
+        ensures owned { TurnOwns (loose_writes self.old) (loose_pages self.old) (loose_pages self.new)
+            result }
+        ensures grows { loose_events self.new
+            ≡ loose_events self.old + length (loose_made self.old self.new) }
+        ensures gives { GivesEvents P.gives P.name P.tells (loose_thread self.old)
+            (loose_made self.old self.new) port.old ticket.old port.new ticket.new }
+        ensures same { IsSameLoose self.old self.new }
+        ensures made { result ≡ Turn.Ran
+            → (loose_state self.new).turns ≡ (loose_state self.old).turns + 1 }
+        ensures yielded { result ≡ Turn.Yielded
+            → (loose_state self.new).turns ≡ (loose_state self.old).turns + 1 }
+        ensures budget { (loose_state self.new).count ≤ (loose_config self.new).budget }
+        ensures few { (loose_state self.new).turns ≤ 128 * (loose_config self.new).budget }
+    {
+        match self.guest.stop {
+            Some(stop) => Turn::Stopped(stop),
+            None => self.guest.make_turn(&mut self.bank, false, port, ticket),
+        }
+    }
+
+    /// Makes turns of a thread that has not stopped, `most` at most, and tells how many, as
+    /// `Context::advance_several` does: each is an instruction that is counted and asks nothing.
+    pub fn advance_several(&mut self, most: u32) -> u32
+        requires { loose_stop self.old ≡ None }
+        ensures turns { GoesBy (loose_config self.old) (loose_thread self.old) (loose_events self.old) result
+            (loose_state self.old) (loose_state self.new) }
+        ensures few { result ≤ most }
+        ensures owned { KeepsOwned (loose_pages self.old) (loose_pages self.new) }
+        ensures count { (loose_state self.new).count ≡ (loose_state self.old).count + result }
+        ensures made { (loose_state self.new).turns ≡ (loose_state self.old).turns + result }
+        ensures stop { loose_stop self.new ≡ None }
+        ensures events { loose_events self.new ≡ loose_events self.old }
+        ensures same { IsSameLoose self.old self.new }
+    {
+        self.guest.make_several_turns(&mut self.bank, false, most)
+    }
+
+    /// The options of the thread's run.
+    pub fn config(&self) -> &Config
+        ensures { result.now ≡ loose_config self.now }
+    {
+        &self.guest.config
+    }
+
+    /// The thread's number.
+    pub fn thread(&self) -> u32
+        ensures { result ≡ loose_thread self.now }
+    {
+        self.guest.number
+    }
+
+    /// The events that the thread used so far, from the start of its journal.
+    pub fn events(&self) -> u32
+        ensures value { result ≡ loose_events self.now }
+        ensures within { result ≤ 262144 }
+    {
+        self.guest.events() as u32
+    }
+
+    /// Counted instructions.
+    pub fn count(&self) -> u32
+        ensures { result ≡ (loose_state self.now).count }
+    {
+        self.guest.count
+    }
+
+    /// Turns made.
+    pub fn turns(&self) -> u64
+        ensures { result ≡ (loose_state self.now).turns }
+    {
+        self.guest.turns
+    }
+
+    /// The bytes that the thread has written.
+    pub fn output(&self) -> &[u8]
+        ensures { result.now ≡ (loose_state self.now).output }
+    {
+        self.guest.output.as_slice()
+    }
+
+    /// The signals that are held, a bit for each.
+    pub fn held(&self) -> u64
+        ensures { result ≡ (loose_state self.now).held }
+    {
+        self.guest.held
+    }
+
+    /// The signals that are not delivered, a bit for each.
+    pub fn mask(&self) -> u64
+        ensures { result ≡ (loose_state self.now).mask }
+    {
+        self.guest.mask
+    }
+
+    /// How many handlers the thread is in.
+    pub fn depth(&self) -> u32
+        ensures { result ≡ (loose_state self.now).depth }
+    {
+        self.guest.depth
+    }
+
+    /// Whether the pending signals were polled since the last counted instruction.
+    pub fn polled(&self) -> bool
+        ensures { result ≡ (loose_state self.now).polled }
+    {
+        self.guest.polled
+    }
+
+    /// The address of a signal's handler; `None` exactly where none is set.
+    pub fn handler(&self, signal: u32) -> Option<u64>
+        ensures { result ≡ get (loose_state self.now).handlers signal }
+    {
+        handler_of(&self.guest.handlers, signal)
+    }
+
+    /// An address for each of the numbers 0 to 62, of which 0 is no signal: that of the signal's handler, or
+    /// 0 where none is set.
+    pub fn handlers(&self) -> &[u64]
+        ensures value { handlers_of result.now ≡ (loose_state self.now).handlers }
+        ensures count { length result.now ≡ 63 }
+    {
+        &self.guest.handlers
+    }
+
+    /// The thread's registers and pages.
+    pub fn machine(&self) -> &Machine
+        ensures { result.now ≡ loose_machine self.now }
+    {
+        &self.guest.machine
+    }
+
+    /// The thread's vectors, predicates, FFR and ZA, in a bank without an owner.
+    pub fn bank(&self) -> &Bank
+        ensures value { result.now ≡ loose_bank self.now }
+        ensures owner { result.now.owner ≡ None }
+    {
+        &self.bank
+    }
+}

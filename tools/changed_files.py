@@ -1,0 +1,175 @@
+#!/usr/bin/env python3
+"""Changes files of each format at random, and compares what the emulator answers with what models say that share nothing with it.
+
+    tools/changed_files.py [PROGRAM] [--cases N] [--seed S] [--formats NAME,..]
+
+PROGRAM is the emulator; where it is not given it is what ./smemu runs. There are N cases of each format, 1,000 where it is not said, and the same seed makes the
+same cases. The formats are program, source, report, plan and script. The files are those of crates/smemu_rows/data, and the models those of
+examples/ and of crates/smemu_rows, but of a source there is none: it is assembled, and then what comes is listed, or it is refused with a line. A case that
+differs is printed with its words and its changes, as the lists of crates/smemu_rows/data have them. The status is 1 where one differs.
+"""
+import argparse
+import concurrent.futures
+import os
+import pathlib
+import random
+import re
+import subprocess
+import sys
+import tempfile
+
+TOP = pathlib.Path(__file__).resolve().parent.parent
+ROWS = TOP / "crates" / "smemu_rows"
+DATA = ROWS / "data"
+sys.path[:0] = [str(TOP / "tools"), str(ROWS), str(TOP / "examples")]
+sys.dont_write_bytecode = True
+
+import emulator
+from altered import answer as replayed
+from changed import ADDRESSES, BYTES, NUMBERS, PLANS, RUN, SCRIPTS, Unknown, after, fields_of, listing, options_in, ran
+from expected_debug import debug, listed
+from world import sim
+
+SECONDS = 60
+CHUNK = 250  # cases that one process makes in a row
+REPORTS = {"nested-signals": "nested-signals.elf.txt", "shared-signals": "debug-signals.report", "shared-cas": "shared-cas.elf.txt", "answer": "answer.elf.txt"}
+LISTED = ("hint-note-stack-and-sections", "data-in-the-text", "section-over-touching-loads", "data-by-the-later-symbol", "loads-in-any-order")
+SOURCES = ("answer.s", "countdown.s", "strlen.s", "za-lazy-saving.s", "threads.s")
+
+
+def read(name):
+    return (DATA / name).read_bytes()
+
+
+ROW_WORDS = {name: words for name, _, words in (line.split(" ", 2) for line in (DATA / "rows.txt").read_text().splitlines())}
+
+
+# ---- changes
+
+
+def change_of_bytes(chance, content):
+    """A byte changed, put in or taken away, a part taken away or doubled, or the rest cut."""
+    at = chance.randrange(len(content) + 1)
+    end = min(len(content), at + chance.choice((1, 1, 1, 2, 4, 8, 64)))
+    new = chance.choice((chance.randbytes(end - at), chance.randbytes(1), b"", content[at:end] * 2, bytes([content[at] ^ 1 << chance.randrange(8)]) if at < len(content) else b"\0",
+                         bytes(end - at), b"\xff" * (end - at)))
+    return at, len(content) if chance.randrange(20) == 0 else end, new
+
+
+def change_of_text(chance, content):
+    """A number, a word or a line changed, or bytes."""
+    found = [*re.finditer(chance.choice((rb"0x[0-9a-f]+", rb"[0-9]+", rb"[^ \n=]+", rb"[^\n]*\n")), content)]
+    if not found or chance.randrange(3) == 0:
+        at = chance.randrange(len(content) + 1)
+        return chance.choice(((at, at, bytes([chance.choice(BYTES)])), (at, min(at + 1, len(content)), bytes([chance.choice(BYTES)])), change_of_bytes(chance, content)))
+    part, other = chance.choice(found), chance.choice(found)
+    new = chance.choice((chance.choice(NUMBERS), chance.choice(ADDRESSES), other.group(), part.group() * 2, b"", str(chance.randrange(200)).encode()))
+    return *part.span(), new
+
+
+def change_of_fields(chance, content):
+    """A field of a program file at an end of its range, or near what it is, or bytes."""
+    if chance.randrange(3) == 0:
+        return change_of_bytes(chance, content)
+    try:
+        at, size = chance.choice([field for field in fields_of(content) if field[1] <= 8])
+    except Exception:
+        return change_of_bytes(chance, content)
+    old, top = int.from_bytes(content[at:at + size], "little"), 1 << 8 * size
+    value = chance.choice((old + chance.randint(-64, 64), chance.randint(-16, 16), len(content) + chance.randint(-64, 64), top // 2 + chance.randint(-2, 2), chance.randrange(top)))
+    return at, at + size, (value % top).to_bytes(size, "little")
+
+
+# ---- formats: the words of a command, the file that is changed, how it is changed, and the answer
+
+
+def programs(chance, texts):
+    name = chance.choice([*LISTED, *RUN])
+    if name in RUN:
+        return f"run @ --budget 50", read(f"{name}.elf"), change_of_fields, lambda file: ran(file, texts, {"budget": 50})
+    return "dis @", read(f"{name}.elf"), change_of_fields, lambda file: listing(file, texts)
+
+
+def sources(chance, texts):
+    return "asm @", read(chance.choice(SOURCES)), change_of_text, None
+
+
+def reports(chance, texts):
+    program, name = chance.choice([*REPORTS.items()])
+    return f"replay {program}.elf @ 0", read(name), change_of_text, lambda report: replayed(read(f"{program}.elf"), report, 0)
+
+
+def plans(chance, texts):
+    name = chance.choice([*PLANS])
+    _, program, _, *options = ROW_WORDS[name].split()
+    return ROW_WORDS[name], read(name), change_of_text, lambda plan: sim(read(program), plan, **options_in(options))
+
+
+def scripts(chance, texts):
+    name = chance.choice([*SCRIPTS])
+    _, program, reported, number, _ = ROW_WORDS[name].split()
+    return ROW_WORDS[name], read(name), change_of_text, lambda script: debug(read(program), read(reported), int(number), script, texts)
+
+
+FORMATS = {"program": programs, "source": sources, "report": reports, "plan": plans, "script": scripts}
+
+
+def answered(smemu, words, changed, folder):
+    """The status and the bytes that the emulator writes."""
+    path = pathlib.Path(folder) / "changed"
+    path.write_bytes(changed)
+    named = [str(path) if word == "@" else str(DATA / word) if "." in word else word for word in words.split()]
+    ended = subprocess.run([smemu, *named], stdin=subprocess.DEVNULL, stdout=subprocess.PIPE, stderr=subprocess.DEVNULL, timeout=SECONDS)
+    return ended.returncode, ended.stdout
+
+
+def is_assembled(smemu, got, folder):
+    """Tells whether a source was assembled to what is listed, or refused with a line."""
+    status, text = got
+    if status == 7:
+        return re.fullmatch(rb"bad source: [a-z0-9 :-]+\n", text) is not None
+    return status == 0 and answered(smemu, "dis @", text, folder)[0] == 0
+
+
+def cases(smemu, name, seed, count, texts):
+    """How many cases there were, and those that differ."""
+    chance, made, differing = random.Random(f"{name} {seed}"), 0, []
+    with tempfile.TemporaryDirectory() as folder:
+        while made < count:
+            words, content, change, answer = FORMATS[name](chance, texts)
+            changes, changed = [], content
+            for _ in range(chance.choice((1, 1, 1, 2, 3))):
+                changes.append(change(chance, changed))
+                changed = after(changed, changes[-1:])
+            try:
+                wanted = answer(changed) if answer else None
+            except (Unknown, KeyError):
+                continue  # a word that no table has
+            made += 1
+            got = answered(smemu, words, changed, folder)
+            right = is_assembled(smemu, got, folder) if answer is None else got == (wanted[0], wanted[1].encode())
+            if not right:
+                differing.append(f"{words}: " + " ".join(f"{start} {end} {new.hex() or '-'}" for start, end, new in changes) + f": status {got[0]}, wanted {wanted}")
+    return made, differing
+
+
+def main():
+    asked = argparse.ArgumentParser()
+    asked.add_argument("program", nargs="?")
+    asked.add_argument("--cases", type=int, default=1000)
+    asked.add_argument("--seed", type=int, default=1)
+    asked.add_argument("--formats", default=",".join(FORMATS))
+    given = asked.parse_args()
+    smemu, texts, faults = str(pathlib.Path(given.program or emulator.find()).resolve()), listed(), 0
+    with concurrent.futures.ProcessPoolExecutor(os.cpu_count()) as pool:
+        for name in given.formats.split(","):
+            sizes = [min(CHUNK, given.cases - begun) for begun in range(0, given.cases, CHUNK)]
+            found = [*pool.map(cases, *zip(*((smemu, name, f"{given.seed} {k}", size, texts) for k, size in enumerate(sizes))))]
+            differing = [line for _, lines in found for line in lines]
+            faults += len(differing)
+            print(*differing, f"{name}: {sum(made for made, _ in found)} cases, {len(differing)} differ", sep="\n", flush=True)
+    return 1 if faults else 0
+
+
+if __name__ == "__main__":
+    sys.exit(main())
