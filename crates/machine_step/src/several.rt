@@ -1,12 +1,11 @@
 //! Several instructions that are executed at once, one after the other, with no look at what else may be due.
-ghost use Rattle.std.specs.Prelude.{◌≡◌, ◌≤◌, ◌&&◌, false};
+ghost use Rattle.std.specs.Prelude.{◌≡◌, ◌&&◌, false};
 ghost use Rattle.paged_memory.specs.PageTable.{KeepsOwned};
 ghost use Rattle.mem_access.specs.Bank.{bank_state};
-ghost use Rattle.machine_step.specs.ProcessorState.{vector_bytes};
 ghost use Rattle.machine_step.specs.Effect.{effect_of};
 ghost use Rattle.machine_step.specs.Needs.{needs_bank};
 ghost use Rattle.machine_step.specs.Machine.{core_of, AttemptsOn, IsInMode, IsSameBank};
-ghost use Rattle.machine_step.specs.Several.{AreExecuted};
+ghost use Rattle.machine_step.specs.Several.{MakesSteps};
 
 use crate::at_once::Attempt;
 use crate::decoder::Decoder;
@@ -26,12 +25,21 @@ impl Machine {
         most: u32,
     ) -> u32
         requires { IsInMode bank.old self.old }
-        ensures executed { AreExecuted apart (vector_bytes bank.old.vectors.vl) result
-            (core_of self.old (bank_state bank.old)) (core_of self.new (bank_state bank.new)) }
-        ensures few { result ≤ most }
-        ensures owned { KeepsOwned self.old.pages self.new.pages }
-        ensures same { IsSameBank bank.old bank.new }
-        ensures mode { IsInMode bank.new self.new }
+        ensures { MakesSteps apart most self.old bank.old self.new bank.new result }
+    {
+        if apart {
+            self.make_steps(decoder, bank, true, most)
+        } else {
+            self.make_steps(decoder, bank, false, most)
+        }
+    }
+
+    /// The same, laid in twice: the loop of a machine that has the bank asks no instruction whether it needs
+    /// one.
+    #[inline(always)]
+    fn make_steps(&mut self, decoder: &mut Decoder, bank: &mut Bank, apart: bool, most: u32) -> u32
+        requires { IsInMode bank.old self.old }
+        ensures { MakesSteps apart most self.old bank.old self.new bank.new result }
     {
         let mut done = 0;
         'steps: while done < most {

@@ -1,19 +1,7 @@
-use Rattle.std.proofs.Common.{add-one, refl, ◌∙◌, arith}
-use Rattle.paged_memory.proofs.Owned.{kept_trans}
-use Rattle.mem_access.specs.Bank.{bank_state}
-use Rattle.machine_step.specs.Machine.{core_of}
-use Rattle.machine_step.proofs.Steps.{executed_more}
 use Rattle.machine_step.proofs.machine.Machine.step_several.Goals as goal
 
-pub steps-preserved : goal.steps-preserved
-steps-preserved c =
-    let h = c.steps.invariant in
-    let e = c.in-Done.ensures in
-    record {
-      executed = rw add-one (executed_more c.args.apart c.args.bank.now.vectors.vl c.steps.done (core_of c.args.self.now (bank_state c.args.bank.now))
-          c.steps.self c.steps.bank c.step_at_once.new.self c.step_at_once.new.bank h.same.vl h.executed e.effect (e.kept refl));
-      few = omega (arith, c.steps-test.true);
-      owned = kept_trans c.args.self.now.pages c.steps.self.pages c.step_at_once.new.self.pages h.owned e.owned;
-      same = record { vl = e.same.vl ∙ h.same.vl; svl = e.same.svl ∙ h.same.svl; owner = e.same.owner ∙ h.same.owner };
-      mode = e.mode;
-    }
+pub returns-then-apart : goal.returns-then-apart
+returns-then-apart c = rw c.if-apart.true c.make_steps.ensures
+
+pub returns-else-apart : goal.returns-else-apart
+returns-else-apart c = rw c.if-apart.false c.make_steps-else-apart.ensures

@@ -4,7 +4,7 @@ use Rattle.mem_access.specs.Bank.{bank_state}
 use Rattle.machine_step.specs.ProcessorState.{vector_bytes}
 use Rattle.machine_step.specs.Machine.{core_of, IsInMode, IsSameBank}
 use Rattle.machine_step.specs.Several.{AreExecuted}
-use Rattle.machine_step.proofs.machine.Machine.step_several.Given as goal
+use Rattle.machine_step.proofs.machine.Machine.make_steps.Given as goal
 
 abbrev pub invariant-steps : goal.invariant-steps
 invariant-steps l = record {
