@@ -1,6 +1,5 @@
 -- A thread that began at its start has all its events in its journal, and its count explains its turns.
-use Rattle.std.proofs.Common.{◌≡◌, ℕ, ◌+◌, ◌*◌, ◌≤◌, Bool, List, Option, Some, None, length, ◌∙◌, subst, arith}
-use Rattle.sm_types.specs.declared.config.Config.{Config}
+use Rattle.std.proofs.Common.{◌≡◌, ℕ, ◌*◌, ◌≤◌, Bool, List, Option, Some, None, length, refl, ◌∙◌, subst, arith}
 use Rattle.sm_types.specs.declared.shared_op.Event.{Event}
 use Rattle.sm_types.specs.declared.stop.Stop.{Stop}
 use Rattle.shared_region.specs.Tickets.{Refusals}
@@ -14,6 +13,7 @@ use Rattle.kernel_contexts.specs.Context.{TurnsOver, TurnsUnless, TurnsOrStays, 
 use Rattle.kernel_contexts.specs.declared.context.Context.{Context}
 use Rattle.kernel_contexts.specs.declared.guest.GuestThread.{GuestThread}
 use Rattle.kernel_contexts.specs.declared.context.Turn.{Turn}
+use Rattle.kernel_contexts.specs.declared.context.Turn.TheVariants.{Stopped}
 
 pub all_events : (g : GuestThread) → IsFromStart g → guest_events g ≡ length g.journal.items
 all_events g h = omega (arith, h.earlier)
@@ -59,3 +59,15 @@ pub turns_on : (stop : Option Stop) (refusals : Refusals) (old : Context) (befor
     → TurnsOn stop refusals old before new after turn
 turns_on None refusals old before new after turn e h = h
 turns_on (Some stop) refusals old before new after turn e h = cc
+
+-- ---- and of one that has
+
+pub stays_so : (stop : Option Stop) (refusals : Refusals) (c : Context) (at : Stop) → stop ≡ Some at → stop_of c ≡ stop
+    → TurnsOrStays stop refusals c c (Stopped at)
+stays_so None refusals c at e now = cc
+stays_so (Some stop) refusals c at e now = (cc, refl, refl, now)
+
+pub stays_on : (stop : Option Stop) (refusals : Refusals) (c : Context) (bank : Bank) (at : Stop) → stop ≡ Some at → stop_of c ≡ stop
+    → TurnsOn stop refusals c bank c bank (Stopped at)
+stays_on None refusals c bank at e now = cc
+stays_on (Some stop) refusals c bank at e now = (cc, refl, refl, now)

@@ -22,3 +22,4 @@ pub mod Asked
 pub mod LooseState
 pub mod LooseParts
 pub mod Loose
+pub mod Advance

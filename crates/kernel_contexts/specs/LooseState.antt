@@ -2,7 +2,7 @@
 -- Source: DDI 0487, B1.2 and B1.4 for the registers, C5.2 for NZCV and SVCR; the kernel is this emulator's
 -- own.
 use Rattle.std.specs.Prelude.{◌≡◌, ℕ, ◌*◌, ◌/◌, ◌%◌, ◌^◌, ◌<◌, ◌≤◌, Bool, true, false, if◌then◌else◌}
-use Rattle.std.specs.Prelude.{List, [], length, map, All, slice_get, Some}
+use Rattle.std.specs.Prelude.{List, length, map, All, slice_get, Some}
 use Rattle.std.specs.List.{concat, flat_map}
 use Rattle.std.specs.FinMap.{entries}
 use Rattle.sm_types.specs.Options.{version_of}

@@ -1,6 +1,6 @@
 //! Contexts and their turns.
-ghost use Rattle.std.specs.Prelude.{◌≡◌, ◌+◌, ◌*◌, ◌<◌, ◌≤◌, ◌++◌, [], length, None, Some, IfOk};
-ghost use Rattle.std.specs.Prelude.{true, false, not, ℕ, slice_get};
+ghost use Rattle.std.specs.Prelude.{◌≡◌, ◌<◌, [], length, None, Some, IfOk};
+ghost use Rattle.std.specs.Prelude.{true, false, ℕ, slice_get};
 ghost use Rattle.kernel_contexts.specs.Guest.{IsFromStart, IsHomeRun, one_home_run};
 ghost use Rattle.kernel_contexts.specs.SaveArea.{IsSaveArea};
 ghost use Rattle.kernel_contexts.specs.Owner.{owns};
@@ -75,18 +75,12 @@ impl Context {
     ghost use Rattle.kernel_contexts.specs.State.{start_state};
     ghost use Rattle.kernel_contexts.specs.HandlerTable.{handlers_of};
     ghost use Rattle.kernel_contexts.specs.Context.{state_of, config_of, thread_of, stop_of, machine_of};
-    ghost use Rattle.kernel_contexts.specs.Context.{save_area_of, image_of, journal_of, made_by};
-    ghost use Rattle.kernel_contexts.specs.Context.{TurnsOrStays, IsSameThread, MayWantMemory};
-    ghost use Rattle.kernel_contexts.specs.Context.{IsPlaceFree, is_home, IsOn, bank_with, GoesOrAsks};
-    ghost use Rattle.kernel_contexts.specs.Context.{turn_at, turn_with};
-    ghost use Rattle.kernel_contexts.specs.Context.{TurnsOn, vectors_on, state_on, bank_of};
-    ghost use Rattle.kernel_contexts.specs.Context.{writes_of_turn, pages_of};
-    ghost use Rattle.paged_memory.specs.PageTable.{KeepsOwned};
-    ghost use Rattle.kernel_contexts.specs.Owned.{TurnOwns};
-    ghost use Rattle.kernel_contexts.specs.Several.{GoesBy, GoesApart};
+    ghost use Rattle.kernel_contexts.specs.Context.{save_area_of, image_of, journal_of, IsSameThread};
+    ghost use Rattle.kernel_contexts.specs.Context.{is_home, IsOn, state_on, bank_of, pages_of};
+    ghost use Rattle.kernel_contexts.specs.Advance.{Advances, AdvancesOn};
+    ghost use Rattle.kernel_contexts.specs.Advance.{AdvancesSeveral, AdvancesSeveralOn};
     ghost use Rattle.kernel_contexts.specs.SaveArea.{HasLengths};
     ghost use Rattle.mem_access.specs.Bank.{bank_state};
-    ghost use Rattle.machine_step.specs.Machine.{IsSameBank};
     ghost use Rattle.shared_region.specs.Tickets.{IsTicketOf, GivesEvents};
 
     /// A thread before its first turn, with its pages and the save area of its vectors taken at once.
@@ -130,23 +124,9 @@ impl Context {
     pub fn advance<P: Port>(&mut self, port: &mut P, ticket: &mut P::Ticket) -> Turn
         requires home { is_home self.old ≡ true }
         requires ticket { IsTicketOf (thread_of self.old) (P.name port.old) (P.tells ticket.old) }
-        ensures turn { TurnsOrStays (stop_of self.old) (P.refuses port.old ticket.old) self.old self.new
-            result }
-        ensures memory { result ≡ Turn.Memory → MayWantMemory (P.refuses port.old ticket.old).takes_memory
-            self.old (save_area_of self.old) }
-        ensures goes { result ≡ Turn.Memory → IsPlaceFree self.old
-            → GoesOrAsks (P.refuses port.old ticket.old).takes_memory (turn_at self.old) }
-        ensures owned { TurnOwns (writes_of_turn self.old (save_area_of self.old)) (pages_of self.old)
-            (pages_of self.new) result }
-        ensures grows { journal_of self.new ≡ journal_of self.old ++ made_by self.old self.new }
-        ensures gives { GivesEvents P.gives P.name P.tells (thread_of self.old) (made_by self.old self.new)
-            port.old ticket.old port.new ticket.new }
-        ensures same { IsSameThread self.old self.new }
-        ensures made { result ≡ Turn.Ran → (state_of self.new).turns ≡ (state_of self.old).turns + 1 }
-        ensures yielded { result ≡ Turn.Yielded → (state_of self.new).turns ≡ (state_of self.old).turns + 1 }
-        ensures budget { (state_of self.new).count ≤ (config_of self.new).budget }
-        ensures few { (state_of self.new).turns ≤ 64 * (config_of self.new).budget }
-        ensures home { is_home self.new ≡ true }
+        ensures { Advances (P.refuses port.old ticket.old)
+            (λ events. GivesEvents P.gives P.name P.tells (thread_of self.old) events port.old ticket.old
+            port.new ticket.new) self.old self.new result }
     {
         match self.guest.stop {
             Some(stop) => Turn::Stopped(stop),
@@ -163,16 +143,7 @@ impl Context {
     pub fn advance_several(&mut self, most: u32) -> u32
         requires home { is_home self.old ≡ true }
         requires runs { stop_of self.old ≡ None }
-        ensures turns { GoesBy (config_of self.old) (thread_of self.old) (length (journal_of self.old)) result
-            (state_of self.old) (state_of self.new) }
-        ensures few { result ≤ most }
-        ensures owned { KeepsOwned (pages_of self.old) (pages_of self.new) }
-        ensures count { (state_of self.new).count ≡ (state_of self.old).count + result }
-        ensures made { (state_of self.new).turns ≡ (state_of self.old).turns + result }
-        ensures stop { stop_of self.new ≡ None }
-        ensures journal { journal_of self.new ≡ journal_of self.old }
-        ensures same { IsSameThread self.old self.new }
-        ensures home { is_home self.new ≡ true }
+        ensures { AdvancesSeveral most self.old self.new result }
     {
         self.guest
             .make_several_turns(&mut self.save_area, false, most)
@@ -191,28 +162,9 @@ impl Context {
     ) -> Turn
         requires on { IsOn self.old bank.old }
         requires ticket { IsTicketOf (thread_of self.old) (P.name port.old) (P.tells ticket.old) }
-        ensures turn { TurnsOn (stop_of self.old) (P.refuses port.old ticket.old) self.old bank.old self.new
-            bank.new result }
-        ensures memory { result ≡ Turn.Memory → MayWantMemory (P.refuses port.old ticket.old).takes_memory
-            self.old (bank_with self.old bank.old) }
-        ensures goes { result ≡ Turn.Memory → IsPlaceFree self.old
-            → GoesOrAsks (P.refuses port.old ticket.old).takes_memory
-            (turn_with self.old (vectors_on self.old bank.old)) }
-        ensures owned { TurnOwns (writes_of_turn self.old (bank_with self.old bank.old)) (pages_of self.old)
-            (pages_of self.new) result }
-        ensures on { IsOn self.new bank.new }
-        ensures bank { IsSameBank bank.old bank.new }
-        ensures apart { owns bank.old (thread_of self.old) ≡ false → bank.new ≡ bank.old }
-        ensures grows { journal_of self.new ≡ journal_of self.old ++ made_by self.old self.new }
-        ensures gives { GivesEvents P.gives P.name P.tells (thread_of self.old) (made_by self.old self.new)
-            port.old ticket.old port.new ticket.new }
-        ensures same { IsSameThread self.old self.new }
-        ensures made { result ≡ Turn.Ran
-            → (state_on self.new bank.new).turns ≡ (state_on self.old bank.old).turns + 1 }
-        ensures yielded { result ≡ Turn.Yielded
-            → (state_on self.new bank.new).turns ≡ (state_on self.old bank.old).turns + 1 }
-        ensures budget { (state_on self.new bank.new).count ≤ (config_of self.new).budget }
-        ensures few { (state_on self.new bank.new).turns ≤ 64 * (config_of self.new).budget }
+        ensures { AdvancesOn (P.refuses port.old ticket.old)
+            (λ events. GivesEvents P.gives P.name P.tells (thread_of self.old) events port.old ticket.old
+            port.new ticket.new) self.old bank.old self.new bank.new result }
     {
         match self.guest.stop {
             Some(stop) => Turn::Stopped(stop),
@@ -232,17 +184,7 @@ impl Context {
     pub fn advance_several_on(&mut self, bank: &mut Bank, most: u32) -> u32
         requires on { IsOn self.old bank.old }
         requires runs { stop_of self.old ≡ None }
-        ensures turns { GoesApart (not (owns bank.old (thread_of self.old))) (config_of self.old)
-            (thread_of self.old) (length (journal_of self.old)) result (state_on self.old bank.old)
-            (state_on self.new bank.new) }
-        ensures few { result ≤ most }
-        ensures owned { KeepsOwned (pages_of self.old) (pages_of self.new) }
-        ensures stop { stop_of self.new ≡ None }
-        ensures on { IsOn self.new bank.new }
-        ensures bank { IsSameBank bank.old bank.new }
-        ensures apart { owns bank.old (thread_of self.old) ≡ false → bank.new ≡ bank.old }
-        ensures journal { journal_of self.new ≡ journal_of self.old }
-        ensures same { IsSameThread self.old self.new }
+        ensures { AdvancesSeveralOn most self.old bank.old self.new bank.new result }
     {
         if is_owned(bank, self.guest.number) {
             self.guest.make_several_turns(bank, false, most)

@@ -1,5 +1,5 @@
 //! The state of a guest thread that no run vouches for, and its turns.
-ghost use Rattle.std.specs.Prelude.{◌≡◌, ◌+◌, ◌*◌, ◌≤◌, length, None, IfOk, true};
+ghost use Rattle.std.specs.Prelude.{◌≡◌, ◌≤◌, length, None, IfOk, true};
 ghost use Rattle.kernel_contexts.specs.SaveArea.{IsSaveArea};
 
 use crate::context::Turn;
@@ -27,13 +27,8 @@ impl Loose {
     ghost use Rattle.kernel_contexts.specs.HandlerTable.{handlers_of};
     ghost use Rattle.kernel_contexts.specs.LooseState.{IsLooseState, HasFields};
     ghost use Rattle.kernel_contexts.specs.Loose.{loose_state, loose_config, loose_thread, loose_events};
-    ghost use Rattle.kernel_contexts.specs.Loose.{loose_stop, loose_machine, loose_bank, loose_pages};
-    ghost use Rattle.kernel_contexts.specs.Loose.{loose_made, loose_turn, loose_writes, LooseTurns};
-    ghost use Rattle.kernel_contexts.specs.Loose.{IsLoosePlaceFree, LooseWants, IsSameLoose};
-    ghost use Rattle.kernel_contexts.specs.Context.{GoesOrAsks};
-    ghost use Rattle.kernel_contexts.specs.Several.{GoesBy};
-    ghost use Rattle.kernel_contexts.specs.Owned.{TurnOwns};
-    ghost use Rattle.paged_memory.specs.PageTable.{KeepsOwned};
+    ghost use Rattle.kernel_contexts.specs.Loose.{loose_stop, loose_machine, loose_bank};
+    ghost use Rattle.kernel_contexts.specs.Advance.{AdvancesLoose, AdvancesSeveralLoose};
     ghost use Rattle.shared_region.specs.Tickets.{IsTicketOf, GivesEvents};
 
     /// The thread that stands in the state of these fields, with these options, after so many events of its
@@ -56,25 +51,9 @@ impl Loose {
     #[inline(always)]
     pub fn advance<P: Port>(&mut self, port: &mut P, ticket: &mut P::Ticket) -> Turn
         requires { IsTicketOf (loose_thread self.old) (P.name port.old) (P.tells ticket.old) }
-        ensures turn { LooseTurns (loose_stop self.old) (P.refuses port.old ticket.old) self.old self.new
-            result }
-        ensures memory { result ≡ Turn.Memory
-            → LooseWants (P.refuses port.old ticket.old).takes_memory self.old }
-        ensures goes { result ≡ Turn.Memory → IsLoosePlaceFree self.old
-            → GoesOrAsks (P.refuses port.old ticket.old).takes_memory (loose_turn self.old) }
-        ensures owned { TurnOwns (loose_writes self.old) (loose_pages self.old) (loose_pages self.new)
-            result }
-        ensures grows { loose_events self.new
-            ≡ loose_events self.old + length (loose_made self.old self.new) }
-        ensures gives { GivesEvents P.gives P.name P.tells (loose_thread self.old)
-            (loose_made self.old self.new) port.old ticket.old port.new ticket.new }
-        ensures same { IsSameLoose self.old self.new }
-        ensures made { result ≡ Turn.Ran
-            → (loose_state self.new).turns ≡ (loose_state self.old).turns + 1 }
-        ensures yielded { result ≡ Turn.Yielded
-            → (loose_state self.new).turns ≡ (loose_state self.old).turns + 1 }
-        ensures budget { (loose_state self.new).count ≤ (loose_config self.new).budget }
-        ensures few { (loose_state self.new).turns ≤ 128 * (loose_config self.new).budget }
+        ensures { AdvancesLoose (P.refuses port.old ticket.old)
+            (λ events. GivesEvents P.gives P.name P.tells (loose_thread self.old) events port.old ticket.old
+            port.new ticket.new) self.old self.new result }
     {
         match self.guest.stop {
             Some(stop) => Turn::Stopped(stop),
@@ -86,15 +65,7 @@ impl Loose {
     /// `Context::advance_several` does: each is an instruction that is counted and asks nothing.
     pub fn advance_several(&mut self, most: u32) -> u32
         requires { loose_stop self.old ≡ None }
-        ensures turns { GoesBy (loose_config self.old) (loose_thread self.old) (loose_events self.old) result
-            (loose_state self.old) (loose_state self.new) }
-        ensures few { result ≤ most }
-        ensures owned { KeepsOwned (loose_pages self.old) (loose_pages self.new) }
-        ensures count { (loose_state self.new).count ≡ (loose_state self.old).count + result }
-        ensures made { (loose_state self.new).turns ≡ (loose_state self.old).turns + result }
-        ensures stop { loose_stop self.new ≡ None }
-        ensures events { loose_events self.new ≡ loose_events self.old }
-        ensures same { IsSameLoose self.old self.new }
+        ensures { AdvancesSeveralLoose most self.old self.new result }
     {
         self.guest.make_several_turns(&mut self.bank, false, most)
     }

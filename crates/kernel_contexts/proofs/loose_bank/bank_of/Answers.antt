@@ -1,9 +1,8 @@
-use Rattle.std.proofs.Common.{◌≡◌, false, ap, sym, ◌∙◌, subst}
+use Rattle.std.proofs.Common.{ap, ◌∙◌, subst}
 use Rattle.sm_types.specs.declared.length.VecLen.{VecLen}
 use Rattle.sve_vectors.specs.Lengths.{vector_bytes}
 use Rattle.sve_vectors.specs.State.{SveState}
 use Rattle.za_array.specs.Array.{IsSquare, zero_vectors, ArrayState}
-use Rattle.kernel_contexts.specs.LooseState.{is_array_on}
 use Rattle.kernel_contexts.proofs.loose_bank.bank_of.Goals as goal
 
 pub put_registers-requires-clause-vl : goal.put_registers-requires-clause-vl

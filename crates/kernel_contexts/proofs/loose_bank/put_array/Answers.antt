@@ -1,4 +1,4 @@
-use Rattle.std.proofs.Common.{◌≡◌, ◌<◌, ◌≤◌, ◌+◌, ◌*◌, [], length, refl, ap, ap₂, sym, ◌∙◌, arith}
+use Rattle.std.proofs.Common.{◌≡◌, ◌<◌, ◌≤◌, ◌+◌, ◌*◌, [], refl, ap, sym, ◌∙◌, arith}
 use Rattle.sve_vectors.specs.Lengths.{vector_bytes}
 use Rattle.za_array.specs.Array.{ArrayState, with_array_vector}
 use Rattle.signal_frames.proofs.Fetching.{row_set, row_fits, rows_all}

@@ -1,8 +1,8 @@
-use Rattle.std.proofs.Common.{◌≡◌, ◌*◌, true, false, if◌then◌else◌, length, ap, sym, ◌∙◌}
+use Rattle.std.proofs.Common.{◌≡◌, ◌*◌, true, false, length, ap, sym, ◌∙◌}
 use Rattle.std.specs.List.{concat}
 use Rattle.sve_vectors.specs.Lengths.{vector_bytes}
 use Rattle.za_array.specs.Array.{ArrayState}
-use Rattle.kernel_contexts.specs.LooseState.{is_array_on, array_size}
+use Rattle.kernel_contexts.specs.LooseState.{is_array_on}
 use Rattle.kernel_contexts.proofs.LooseParts.{pieces_whole, on_off, still_zero}
 use Rattle.kernel_contexts.proofs.loose_bank.put_array_of.Goals as goal
 

@@ -1,4 +1,4 @@
-use Rattle.std.proofs.Common.{rules, ◌≡◌, ◌<◌, ◌≤◌, ◌+◌, ◌*◌, ◌/◌, [], length, refl, ap, ap₂, sym, ◌∙◌, arith}
+use Rattle.std.proofs.Common.{rules, ◌≡◌, ◌≤◌, ◌+◌, ◌*◌, ◌/◌, [], refl, ap, ap₂, ◌∙◌, arith}
 use Rattle.sve_vectors.specs.Predicates.{truths_of}
 use Rattle.sve_vectors.specs.State.{length_of, with_predicate}
 use Rattle.signal_frames.specs.Reading.{with_predicates}

@@ -1,4 +1,4 @@
-use Rattle.std.proofs.Common.{◌≡◌, ◌*◌, ◌/◌, ◌%◌, length, ap, sym, ◌∙◌, arith}
+use Rattle.std.proofs.Common.{◌*◌, ◌/◌, length, ap, sym, ◌∙◌, arith}
 use Rattle.sve_vectors.specs.Lengths.{current_bytes}
 use Rattle.sve_vectors.specs.State.{SveState, length_of}
 use Rattle.machine_step.proofs.Modes.{mode_written, lengths_kept}

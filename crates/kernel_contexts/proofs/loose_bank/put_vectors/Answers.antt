@@ -1,4 +1,4 @@
-use Rattle.std.proofs.Common.{◌≡◌, ◌<◌, ◌≤◌, ◌+◌, ◌*◌, [], length, refl, ap, ap₂, sym, ◌∙◌, arith}
+use Rattle.std.proofs.Common.{◌≡◌, ◌≤◌, ◌+◌, ◌*◌, [], refl, ap, ap₂, sym, ◌∙◌, arith}
 use Rattle.sve_vectors.specs.State.{length_of, with_vector}
 use Rattle.signal_frames.specs.Reading.{with_vectors}
 use Rattle.signal_frames.proofs.Fetching.{row_set, row_fits, rows_all}

@@ -5,11 +5,22 @@ use Rattle.kernel_contexts.proofs.Kept.{run_same}
 use Rattle.kernel_contexts.proofs.Several.{run_goes_by}
 use Rattle.kernel_contexts.proofs.context.Context.advance_several.Goals as goal
 
-pub returns-clause-turns : goal.returns-clause-turns
-returns-clause-turns c =
+pub returns : goal.returns
+returns c =
     let before = c.args.self.now in
-    several_from_start before.guest before.from_start false c.make_several_turns.result (held_state before.guest before.save_area)
-    (held_state c.make_several_turns.new.self c.make_several_turns.new.bank) c.make_several_turns.ensures.turns
+    let e = c.make_several_turns.ensures in
+    record {
+      turns = several_from_start before.guest before.from_start false c.make_several_turns.result
+          (held_state before.guest before.save_area) (held_state c.make_several_turns.new.self c.make_several_turns.new.bank) e.turns;
+      few = e.few;
+      owned = e.owned;
+      count = e.count;
+      made = e.made;
+      stop = e.stop ∙ c.requires.runs;
+      journal = e.same.journal;
+      same = record { config = e.same.config; thread = e.same.number; image = refl };
+      home = c.requires.home;
+    }
 
 pub invariant_of-self : goal.invariant_of-self
 invariant_of-self c =

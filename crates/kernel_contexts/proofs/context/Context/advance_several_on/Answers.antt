@@ -1,4 +1,4 @@
-use Rattle.std.proofs.Common.{◌≡◌, ℕ, true, false, refl, ap, sym, ◌∙◌}
+use Rattle.std.proofs.Common.{◌≡◌, ℕ, true, false, refl, ap, sym, ◌∙◌, rules}
 use Rattle.std.specs.Prelude.{Option, not}
 use Rattle.kernel_contexts.specs.Owner.{owns, is_owner}
 use Rattle.kernel_contexts.specs.Context.{held_state}
@@ -7,19 +7,8 @@ use Rattle.kernel_contexts.proofs.Kept.{run_same}
 use Rattle.kernel_contexts.proofs.Several.{run_goes_by, owned_on}
 use Rattle.kernel_contexts.proofs.context.Context.advance_several_on.Goals as goal
 
-pub returns-then-is_owned-clause-turns : goal.returns-then-is_owned-clause-turns
-returns-then-is_owned-clause-turns c =
-    let e = c.make_several_turns.ensures in
-    let new = c.make_several_turns.new.self in
-    let after = c.make_several_turns.new.bank in
-    let here : owns c.args.bank.now c.args.self.now.guest.number ≡ true = sym c.is_owned.ensures ∙ c.if-is_owned.true in
-    let owned = owned_on c.args.bank.now after c.args.self.now.guest.number new.number true e.back.same.owner e.same.number here in
-    let old = c.args.self.now in
-    rw (here, owned) (several_from_start old.guest old.from_start false c.make_several_turns.result (held_state old.guest c.args.bank.now)
-    (held_state new after) e.turns)
-
-pub returns-then-is_owned-clause-on : goal.returns-then-is_owned-clause-on
-returns-then-is_owned-clause-on c =
+pub returns-then-is_owned : goal.returns-then-is_owned
+returns-then-is_owned c =
     let before = c.args.self.now in
     let old = before.guest in
     let bank = c.args.bank.now in
@@ -27,28 +16,58 @@ returns-then-is_owned-clause-on c =
     let after = c.make_several_turns.new.bank in
     let e = c.make_several_turns.ensures in
     let here : owns bank old.number ≡ true = sym c.is_owned.ensures ∙ c.if-is_owned.true in
+    let there = owned_on bank after old.number new.number true e.back.same.owner e.same.number here in
+    let so = several_from_start old before.from_start false c.make_several_turns.result (held_state old bank) (held_state new after)
+    e.turns in
     record {
-      lengths = e.back.fit.lengths;
-      place = c.requires.on.place
-          ∙ ap (λ (o : Option ℕ). not (is_owner o old.number)) (sym e.back.same.owner)
-          ∙ ap (λ (n : ℕ). not (owns after n)) (sym e.same.number);
-      fit = λ _. e.back.fit;
-      run = λ _. run_same before.image old.config new.config old.number new.number old.journal.items new.journal.items
-          (held_state new after) (held_state new after) old.stop new.stop e.same.config e.same.number e.same.journal refl e.stop
-          (run_goes_by false before.image old.config old.number (held_state old bank) (held_state new after) old.journal.items old.stop
-          c.make_several_turns.result c.requires.runs (c.requires.on.run here)
-          (several_from_start old before.from_start false c.make_several_turns.result (held_state old bank) (held_state new after) e.turns));
+      turns = rw (here, there) so;
+      few = e.few;
+      owned = e.owned;
+      stop = e.stop ∙ c.requires.runs;
+      on = record {
+        lengths = e.back.fit.lengths;
+        place = c.requires.on.place
+            ∙ ap (λ (o : Option ℕ). not (is_owner o old.number)) (sym e.back.same.owner)
+            ∙ ap (λ (n : ℕ). not (owns after n)) (sym e.same.number);
+        fit = λ _. e.back.fit;
+        run = λ _. run_same before.image old.config new.config old.number new.number old.journal.items new.journal.items
+            (held_state new after) (held_state new after) old.stop new.stop e.same.config e.same.number e.same.journal refl e.stop
+            (run_goes_by false before.image old.config old.number (held_state old bank) (held_state new after) old.journal.items old.stop
+            c.make_several_turns.result c.requires.runs (c.requires.on.run here) so);
+      };
+      bank = e.back.same;
+      apart = λ not_owned. let clash = sym here ∙ not_owned in cc;
+      journal = e.same.journal;
+      same = record { config = e.same.config; thread = e.same.number; image = refl };
     }
 
-pub returns-else-is_owned-clause-turns : goal.returns-else-is_owned-clause-turns
-returns-else-is_owned-clause-turns c =
+pub returns-else-is_owned : goal.returns-else-is_owned
+returns-else-is_owned c =
+    let before = c.args.self.now in
+    let old = before.guest in
+    let bank = c.args.bank.now in
     let made = c.make_several_turns-else-is_owned in
-    let here : owns c.args.bank.now c.args.self.now.guest.number ≡ false = sym c.is_owned.ensures ∙ c.if-is_owned.false in
-    let there = owned_on c.args.bank.now c.args.bank.now c.args.self.now.guest.number made.new.self.number false refl
-    made.ensures.same.number here in
-    let old = c.args.self.now in
-    rw (here, there) (several_from_start old.guest old.from_start true made.result (held_state old.guest old.save_area)
-    (held_state made.new.self made.new.bank) made.ensures.turns)
+    let new = made.new.self in
+    let e = made.ensures in
+    let here : owns bank old.number ≡ false = sym c.is_owned.ensures ∙ c.if-is_owned.false in
+    let there = owned_on bank bank old.number new.number false refl e.same.number here in
+    record {
+      turns = rw (here, there) (several_from_start old before.from_start true made.result (held_state old before.save_area)
+          (held_state new made.new.bank) e.turns);
+      few = e.few;
+      owned = e.owned;
+      stop = e.stop ∙ c.requires.runs;
+      on = record {
+        lengths = search rules;
+        place = search rules;
+        fit = λ owned. let clash = sym there ∙ owned in cc;
+        run = λ owned. let clash = sym there ∙ owned in cc;
+      };
+      bank = record { vl = refl; svl = refl; owner = refl };
+      apart = λ _. refl;
+      journal = e.same.journal;
+      same = record { config = e.same.config; thread = e.same.number; image = refl };
+    }
 
 pub invariant_of-self-else-is_owned : goal.invariant_of-self-else-is_owned
 invariant_of-self-else-is_owned c =

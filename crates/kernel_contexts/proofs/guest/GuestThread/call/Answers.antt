@@ -1,4 +1,4 @@
-use Rattle.std.proofs.Common.{◌≡◌, length, slice_index, inl, inr, ap, ◌∙◌}
+use Rattle.std.proofs.Common.{◌≡◌, slice_index, inl, inr, ap, ◌∙◌}
 use Rattle.sm_types.specs.Options.{version_of}
 use Rattle.sm_types.specs.declared.version.Version.{Version}
 use Rattle.mem_access.specs.declared.bank.Bank.{Bank}

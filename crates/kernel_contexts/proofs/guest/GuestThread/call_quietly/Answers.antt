@@ -1,4 +1,4 @@
-use Rattle.std.proofs.Common.{◌≡◌, length, slice_index, sym, subst}
+use Rattle.std.proofs.Common.{◌≡◌, slice_index, sym, subst}
 use Rattle.sm_types.specs.Options.{version_of}
 use Rattle.sm_types.specs.declared.stop.Stop.{Stop}
 use Rattle.std.proofs.Common.{Option}

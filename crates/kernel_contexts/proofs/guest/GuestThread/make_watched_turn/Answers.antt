@@ -1,4 +1,4 @@
-use Rattle.std.proofs.Common.{◌≡◌, true, false, length, ap, sym, ◌∙◌}
+use Rattle.std.proofs.Common.{◌≡◌, true, false, ap, sym, ◌∙◌}
 use Rattle.sm_types.specs.declared.stop.Stop.TheVariants.{Budget}
 use Rattle.kernel_contexts.specs.Call.{Ends}
 use Rattle.kernel_contexts.specs.Turn.{is_poll_due, is_delivery_due, poll_of, delivery_of}

@@ -1,11 +1,19 @@
-use Rattle.std.proofs.Common.{◌≡◌, ◌+◌, List, length, ◌∙◌}
-use Rattle.sm_types.specs.declared.shared_op.Event.{Event}
+use Rattle.std.proofs.Common.{◌+◌, length, ◌∙◌}
 use Rattle.kernel_contexts.proofs.loose.Loose.advance_several.Goals as goal
 
-pub returns-clause-events : goal.returns-clause-events
-returns-clause-events c =
-    let same = c.make_several_turns.ensures.same in
-    λ i. same.earlier i + length (same.journal i)
+pub returns : goal.returns
+returns c =
+    let e = c.make_several_turns.ensures in
+    record {
+      turns = e.turns;
+      few = e.few;
+      owned = e.owned;
+      count = e.count;
+      made = e.made;
+      stop = e.stop ∙ c.requires;
+      events = λ i. e.same.earlier i + length (e.same.journal i);
+      same = record { config = e.same.config; thread = e.same.number };
+    }
 
 pub invariant_of-self : goal.invariant_of-self
 invariant_of-self c =
