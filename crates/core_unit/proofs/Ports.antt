@@ -8,24 +8,11 @@ use Rattle.shared_region.specs.Chain.{Chain}
 use Rattle.shared_region.specs.Tickets.{TicketView, IsTicketOf, with_events, Refusals, GivesEvents}
 use Rattle.shared_region.proofs.Chains.{chain_join}
 use Rattle.kernel_contexts.specs.Context.{made_since}
-use Rattle.kernel_contexts.proofs.Answered.{made_events}
 use Rattle.core_unit.specs.Guest.{Guest}
 use Rattle.core_unit.specs.Run.{RunsFirst}
 use Rattle.core_unit.specs.declared.run.CoreRun.{CoreRun}
 
-with_none : (t : TicketView) → t ≡ with_events t []
-with_none t = let e = sym (append-nil t.events) in λ i. record { number = t.number; events = e i; name = t.name }
-
 module _ {P T : Type 0} (gives : P → T → Entry → P → T → Type 0) (name : P → List ℕ) (tells : T → TicketView) where
-  gives_nothing : (p : P) (t : T) (thread : ℕ) → GivesEvents gives name tells thread [] p t p t
-  gives_nothing p t thread = record { chain = (refl, refl); same = refl; ticket = with_none (tells t) }
-
-  pub gives_none : (p : P) (t : T) (thread : ℕ) (journal : List Event)
-      → GivesEvents gives name tells thread (made_since journal journal) p t p t
-  gives_none p t thread journal =
-      let none : made_since journal journal ≡ [] = made_events journal journal [] (sym (append-nil journal)) in
-      subst (λ (l : List Event). GivesEvents gives name tells thread l p t p t) (sym none) (gives_nothing p t thread)
-
   -- the turns so far and one more
   pub gives_more : (p q r : P) (t u v : T) (thread number : ℕ) (so_far made all : List Event) → all ≡ so_far ++ made → number ≡ thread
       → GivesEvents gives name tells thread so_far p t q u → GivesEvents gives name tells number made q u r v

@@ -1,11 +1,16 @@
 -- The turns of a resident until one needs the bank of another thread.
-use Rattle.std.specs.Prelude.{◌≡◌, ℕ, ◌+◌, ◌<◌, ◌≤◌, ◌++◌, Bool, true, false, [], None, length}
+use Rattle.std.specs.Prelude.{◌≡◌, ℕ, ◌+◌, ◌<◌, ◌≤◌, ◌++◌, Bool, true, false, List, [], None, length}
+use Rattle.sm_types.specs.declared.shared_op.Event.{Event}
 use Rattle.shared_region.specs.Tickets.{Refusals}
+use Rattle.mem_access.specs.declared.bank.Bank.{Bank}
+use Rattle.machine_step.specs.Machine.{IsSameBank}
+use Rattle.kernel_contexts.specs.Context.{IsOn, IsSameThread, made_by, owns, thread_of}
 use Rattle.kernel_contexts.specs.Needs.{needs_vectors}
+use Rattle.kernel_contexts.specs.declared.context.Context.{Context}
 use Rattle.kernel_contexts.specs.declared.context.Turn.{Turn}
 use Rattle.kernel_contexts.specs.declared.context.Turn.TheVariants as turn
 use Rattle.core_unit.specs.Course.{Going}
-use Rattle.core_unit.specs.Guest.{Guest}
+use Rattle.core_unit.specs.Guest.{Guest, guest_on}
 use Rattle.core_unit.specs.Need.{first_need_of, need_in_run}
 use Rattle.core_unit.specs.Run.{RunsFirst, course_of, answers_of}
 use Rattle.core_unit.specs.declared.turns.TurnsEnd.{TurnsEnd}
@@ -44,3 +49,14 @@ TurnsMade refusals k old new owned (NeedsBank turns) =
     × (owned ≡ false)
     × (first_need_of old new turns ≡ None)
     × (needs_vectors new.config new.state ≡ true)
+
+-- the turns of a resident on a bank, over a port that refuses so, which gave the events: a bank that is not its
+-- thread's stays as it is
+pub record MakesTurns (refusals : Refusals) (given : List Event → Type 0) (k : ℕ) (old : Context) (before : Bank)
+    (new : Context) (after : Bank) (end : TurnsEnd) : Type 0 where
+  pub turns : TurnsMade refusals k (guest_on before old) (guest_on after new) (owns before (thread_of old)) end
+  pub gives : given (made_by old new)
+  pub on : IsOn new after
+  pub bank : IsSameBank before after
+  pub apart : owns before (thread_of old) ≡ false → after ≡ before
+  pub same : IsSameThread old new

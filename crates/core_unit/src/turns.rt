@@ -1,10 +1,8 @@
 //! The turns that a core lets a resident make.
-ghost use Rattle.std.specs.Prelude.{◌≡◌, ◌≢◌, false};
-ghost use Rattle.machine_step.specs.Machine.{IsSameBank};
+ghost use Rattle.std.specs.Prelude.{◌≡◌, ◌≢◌};
 ghost use Rattle.shared_region.specs.Tickets.{IsTicketOf, GivesEvents};
-ghost use Rattle.kernel_contexts.specs.Context.{IsOn, owns, thread_of, made_by, IsSameThread};
-ghost use Rattle.core_unit.specs.Guest.{guest_on};
-ghost use Rattle.core_unit.specs.Made.{TurnsMade, waits};
+ghost use Rattle.kernel_contexts.specs.Context.{IsOn, thread_of};
+ghost use Rattle.core_unit.specs.Made.{MakesTurns, waits};
 ghost use Rattle.core_unit.specs.Run.{end_of_turn};
 
 use crate::resident::Resident;
@@ -59,16 +57,10 @@ pub fn make_turns<P: Port>(
     requires on { IsOn resident.old.context bank.old }
     requires ticket { IsTicketOf (thread_of resident.old.context) (P.name port.old)
         (P.tells resident.old.ticket) }
-    ensures turns { TurnsMade (P.refuses port.new resident.new.ticket) k
-        (guest_on bank.old resident.old.context) (guest_on bank.new resident.new.context)
-        (owns bank.old (thread_of resident.old.context)) result }
-    ensures gives { GivesEvents P.gives P.name P.tells (thread_of resident.old.context)
-        (made_by resident.old.context resident.new.context) port.old resident.old.ticket port.new
-        resident.new.ticket }
-    ensures on { IsOn resident.new.context bank.new }
-    ensures bank { IsSameBank bank.old bank.new }
-    ensures apart { owns bank.old (thread_of resident.old.context) ≡ false → bank.new ≡ bank.old }
-    ensures same { IsSameThread resident.old.context resident.new.context }
+    ensures { MakesTurns (P.refuses port.new resident.new.ticket)
+        (λ events. GivesEvents P.gives P.name P.tells (thread_of resident.old.context) events port.old
+        resident.old.ticket port.new resident.new.ticket) k resident.old.context bank.old
+        resident.new.context bank.new result }
 {
     if resident.context.stop().is_some() {
         return TurnsEnd::Ended(CoreRun {

@@ -3,26 +3,30 @@ use Rattle.std.specs.Prelude.{not}
 use Rattle.kernel_contexts.specs.Context.{owns, thread_of, config_of, state_on, journal_of, stop_of, made_by}
 use Rattle.core_unit.specs.Guest.{guest_on}
 use Rattle.core_unit.specs.Need.{first_need_of}
-use Rattle.core_unit.proofs.Ports.{gives_none, gives_more, ticket_stays, ticket_kept, gives_kept, refuses_there}
+use Rattle.kernel_contexts.proofs.Nothing.{gives_none}
+use Rattle.core_unit.proofs.Ports.{gives_more, ticket_stays, ticket_kept, gives_kept, refuses_there}
 use Rattle.core_unit.proofs.Runs.{IsLater, run_begins, goes_on, IsGoneBy, gone_by, rises, made_none, runs_so, runs_spent, is_answers}
 use Rattle.core_unit.proofs.Runs.{runs_not_some, turned_on, needed_on, needs_there, made_turn, has_made, owned_still, owned_before, none_of}
 use Rattle.core_unit.proofs.Runs.{quiet_start, quiet_not, quiet_on, quiet_next, quiet_by, quiet_so, unneeded_on}
 use Rattle.core_unit.proofs.turns.make_turns.Goals as goal
 
-pub returns-then-is_some-clause-turns : goal.returns-then-is_some-clause-turns
-returns-then-is_some-clause-turns g c =
-    let context = c.args.resident.now.context in (
-      runs_not_some _ c.args.k (guest_on c.args.bank.now context) c.stop.result c.stop.ensures
-          (sym c.is_some.ensures ∙ c.if-is_some.true),
-      omega arith,
-      λ _. quiet_not c.args.k (guest_on c.args.bank.now context) c.stop.result c.stop.ensures
-          (sym c.is_some.ensures ∙ c.if-is_some.true),
-    )
-
-pub returns-then-is_some-clause-gives : goal.returns-then-is_some-clause-gives
-returns-then-is_some-clause-gives g c =
+pub returns-then-is_some : goal.returns-then-is_some
+returns-then-is_some g c =
     let context = c.args.resident.now.context in
-    gives_none g.P.Port.gives g.P.Port.name g.P.Port.tells _ _ (thread_of context) (journal_of context)
+    record {
+      turns = (
+        runs_not_some _ c.args.k (guest_on c.args.bank.now context) c.stop.result c.stop.ensures
+            (sym c.is_some.ensures ∙ c.if-is_some.true),
+        omega arith,
+        λ _. quiet_not c.args.k (guest_on c.args.bank.now context) c.stop.result c.stop.ensures
+            (sym c.is_some.ensures ∙ c.if-is_some.true),
+      );
+      gives = gives_none g.P.Port.gives g.P.Port.name g.P.Port.tells _ _ (thread_of context) (journal_of context);
+      on = c.requires.on;
+      bank = record { vl = refl; svl = refl; owner = refl };
+      apart = λ apart. refl;
+      same = record { config = refl; thread = refl; image = refl };
+    }
 
 pub turns-init : goal.turns-init
 turns-init g c =
@@ -126,8 +130,8 @@ turns-preserved g c =
           (journal_of last) f.journal given;
     }
 
-pub returns-in-Some-clause-turns : goal.returns-in-Some-clause-turns
-returns-in-Some-clause-turns g c =
+pub returns-in-Some : goal.returns-in-Some
+returns-in-Some g c =
     let h = c.turns.invariant in
     let e = c.advance_on-turn.ensures in
     let first = c.args.resident.now.context in
@@ -143,57 +147,64 @@ returns-in-Some-clause-turns g c =
     let rise = rises was (guest_on bank old) (guest_on after new) c.turns.turns (made_by old new) h.run h.runs later _
     c.advance_on-turn.result turn in
     let none = made_none was (guest_on bank old) (guest_on after new) c.turns.turns (made_by old new) h.run h.runs later _
-    c.advance_on-turn.result c.in-Some.why (sym c.in-Some.ensures) turn in (
-      refuses_there g.P.Port.gives g.P.Port.name g.P.Port.tells g.P.Port.refuses _ _ _ _ (thread_of old) (made_by old new) c.args.k was
-          (guest_on after new) _ none e.gives
-          (runs_so was (guest_on bank old) (guest_on after new) c.turns.turns (made_by old new) h.run h.runs later _ c.args.k _
-          c.turns-test.true (omega (arith, rise.0, h.run.turns, c.turns-begun.ensures, c.turns-in-Some.ensures)) c.advance_on-turn.result
-          c.in-Some.why (sym c.in-Some.ensures) turn
-          (λ is. record { context = old; bank = bank; is = refl; wants = e.memory is; goes = e.goes is })),
-      omega (
-        arith,
-        rise.1,
-        h.run.turns,
-        c.turns-begun.ensures,
-        c.turns-in-Some.ensures,
-        c.turns-test.true,
-      ),
-      λ apart.
-          let here = owned_still c.args.bank.now bank (thread_of first) (thread_of old) h.bank.owner h.same.thread apart in
-          quiet_so was (guest_on bank old) (guest_on after new) c.turns.turns (made_by old new) h.run h.runs later _ c.args.k _
-          c.turns-test.true (omega (arith, rise.0, h.run.turns, c.turns-begun.ensures, c.turns-in-Some.ensures)) c.advance_on-turn.result
-          c.in-Some.why (sym c.in-Some.ensures) turn
-          (quiet_on was (guest_on bank old) (guest_on after new) c.turns.turns (made_by old new) h.run h.runs later
-          (h.quiet apart) (unneeded_on _ _ old bank new after c.advance_on-turn.result h.runs made here e.turn)),
-    )
+    c.advance_on-turn.result c.in-Some.why (sym c.in-Some.ensures) turn in
+    record {
+      turns = (
+        refuses_there g.P.Port.gives g.P.Port.name g.P.Port.tells g.P.Port.refuses _ _ _ _ (thread_of old) (made_by old new) c.args.k was
+            (guest_on after new) _ none e.gives
+            (runs_so was (guest_on bank old) (guest_on after new) c.turns.turns (made_by old new) h.run h.runs later _ c.args.k _
+            c.turns-test.true (omega (arith, rise.0, h.run.turns, c.turns-begun.ensures, c.turns-in-Some.ensures)) c.advance_on-turn.result
+            c.in-Some.why (sym c.in-Some.ensures) turn
+            (λ is. record { context = old; bank = bank; is = refl; wants = e.memory is; goes = e.goes is })),
+        omega (
+          arith,
+          rise.1,
+          h.run.turns,
+          c.turns-begun.ensures,
+          c.turns-in-Some.ensures,
+          c.turns-test.true,
+        ),
+        λ apart.
+            let here = owned_still c.args.bank.now bank (thread_of first) (thread_of old) h.bank.owner h.same.thread apart in
+            quiet_so was (guest_on bank old) (guest_on after new) c.turns.turns (made_by old new) h.run h.runs later _ c.args.k _
+            c.turns-test.true (omega (arith, rise.0, h.run.turns, c.turns-begun.ensures, c.turns-in-Some.ensures)) c.advance_on-turn.result
+            c.in-Some.why (sym c.in-Some.ensures) turn
+            (quiet_on was (guest_on bank old) (guest_on after new) c.turns.turns (made_by old new) h.run h.runs later
+            (h.quiet apart) (unneeded_on _ _ old bank new after c.advance_on-turn.result h.runs made here e.turn)),
+      );
+      gives = gives_more g.P.Port.gives g.P.Port.name g.P.Port.tells _ _ _ _ _ _ (thread_of first) (thread_of old) _ (made_by old new) _
+          (is_answers was (guest_on bank old) (guest_on after new) c.turns.turns (made_by old new) h.run h.runs later)
+          h.same.thread h.gives e.gives;
+      on = e.on;
+      bank = record { vl = e.bank.vl ∙ h.bank.vl; svl = e.bank.svl ∙ h.bank.svl; owner = e.bank.owner ∙ h.bank.owner };
+      apart = λ apart. e.apart (owned_still c.args.bank.now c.turns.bank (thread_of c.args.resident.now.context)
+          (thread_of c.turns.resident.context) h.bank.owner h.same.thread apart) ∙ h.apart apart;
+      same = record {
+        config = e.same.config ∙ h.same.config;
+        thread = e.same.thread ∙ h.same.thread;
+        image = e.same.image ∙ h.same.image;
+      };
+    }
 
-pub returns-in-Some-clause-gives : goal.returns-in-Some-clause-gives
-returns-in-Some-clause-gives g c =
+pub returns : goal.returns
+returns g c =
     let h = c.turns.invariant in
-    let e = c.advance_on-turn.ensures in
-    let first = c.args.resident.now.context in
-    let old = c.turns.resident.context in
-    let new = c.advance_on-turn.new.self in
-    let bank = c.turns.bank in
-    let after = c.advance_on-turn.new.bank in
-    let was = guest_on c.args.bank.now first in
-    let later : IsLater (guest_on bank old) (guest_on after new) (made_by old new) =
-    record { program = e.same.image; config = e.same.config; number = e.same.thread; journal = e.grows } in
-    gives_more g.P.Port.gives g.P.Port.name g.P.Port.tells _ _ _ _ _ _ (thread_of first) (thread_of old) _ (made_by old new) _
-    (is_answers was (guest_on bank old) (guest_on after new) c.turns.turns (made_by old new) h.run h.runs later)
-    h.same.thread h.gives e.gives
-
-pub returns-clause-turns : goal.returns-clause-turns
-returns-clause-turns g c =
-    let h = c.turns.invariant in (
-      runs_spent _ c.args.k (guest_on c.args.bank.now c.args.resident.now.context) (guest_on c.turns.bank c.turns.resident.context)
-          c.turns.turns h.run h.runs (omega (arith, h.few, c.turns-test.false)),
-      h.few,
-      λ apart.
-          let all : c.args.k ≡ c.turns.turns = omega (arith, h.few, c.turns-test.false) in
-          ap (first_need_of (guest_on c.args.bank.now c.args.resident.now.context) (guest_on c.turns.bank c.turns.resident.context)) all
-          ∙ h.quiet apart,
-    )
+    record {
+      turns = (
+        runs_spent _ c.args.k (guest_on c.args.bank.now c.args.resident.now.context) (guest_on c.turns.bank c.turns.resident.context)
+            c.turns.turns h.run h.runs (omega (arith, h.few, c.turns-test.false)),
+        h.few,
+        λ apart.
+            let all : c.args.k ≡ c.turns.turns = omega (arith, h.few, c.turns-test.false) in
+            ap (first_need_of (guest_on c.args.bank.now c.args.resident.now.context) (guest_on c.turns.bank c.turns.resident.context)) all
+            ∙ h.quiet apart,
+      );
+      gives = h.gives;
+      on = h.on;
+      bank = h.bank;
+      apart = h.apart;
+      same = h.same;
+    }
 
 pub overflow_sub-made : goal.overflow_sub-made
 overflow_sub-made g c =
@@ -227,8 +238,8 @@ overflow_cast-made g c =
     (made_turn c.advance_on-turn.result _ c.waits.ensures c.if-waits.false) e.turn) in
     omega (arith, rise.1, h.run.turns, c.turns-begun.ensures, c.turns-in-Some.ensures, c.turns-test.true, c.ranges.k)
 
-pub returns-then-waits-clause-turns : goal.returns-then-waits-clause-turns
-returns-then-waits-clause-turns g c =
+pub returns-then-waits : goal.returns-then-waits
+returns-then-waits g c =
     let h = c.turns.invariant in
     let e = c.advance_on-turn.ensures in
     let first = c.args.resident.now.context in
@@ -240,40 +251,25 @@ returns-then-waits-clause-turns g c =
     let need = needed_on _ _ old bank new after c.advance_on-turn.result h.runs (sym c.waits.ensures ∙ c.if-waits.true) e.turn in
     let later : IsLater (guest_on bank old) (guest_on after new) (made_by old new) =
     record { program = e.same.image; config = e.same.config; number = e.same.thread; journal = e.grows } in
-    let apart = owned_before c.args.bank.now bank (thread_of first) (thread_of old) h.bank.owner h.same.thread need.apart in (
-      has_made was (guest_on bank old) (guest_on after new) c.turns.turns (made_by old new) h.run h.runs later need.none need.same need.runs,
-      c.turns-test.true,
-      apart,
-      quiet_next was (guest_on bank old) (guest_on after new) c.turns.turns (made_by old new) h.run h.runs later (h.quiet apart),
-      needs_there (config_of new) (config_of old) (state_on new after) (state_on old bank) e.same.config need.same need.needs,
-    )
-
-pub returns-then-waits-clause-gives : goal.returns-then-waits-clause-gives
-returns-then-waits-clause-gives g c =
-    let h = c.turns.invariant in
-    let e = c.advance_on-turn.ensures in
-    let first = c.args.resident.now.context in
-    let old = c.turns.resident.context in
-    let new = c.advance_on-turn.new.self in
-    let bank = c.turns.bank in
-    let after = c.advance_on-turn.new.bank in
-    let was = guest_on c.args.bank.now first in
-    let later : IsLater (guest_on bank old) (guest_on after new) (made_by old new) =
-    record { program = e.same.image; config = e.same.config; number = e.same.thread; journal = e.grows } in
-    gives_more g.P.Port.gives g.P.Port.name g.P.Port.tells _ _ _ _ _ _ (thread_of first) (thread_of old) _ (made_by old new) _
-    (is_answers was (guest_on bank old) (guest_on after new) c.turns.turns (made_by old new) h.run h.runs later)
-    h.same.thread h.gives e.gives
-
-pub returns-then-waits-clause-apart : goal.returns-then-waits-clause-apart
-returns-then-waits-clause-apart g c = λ apart.
-    let h = c.turns.invariant in
-    c.advance_on-turn.ensures.apart (owned_still c.args.bank.now c.turns.bank (thread_of c.args.resident.now.context)
-    (thread_of c.turns.resident.context) h.bank.owner h.same.thread apart)
-    ∙ h.apart apart
-
-pub returns-in-Some-clause-apart : goal.returns-in-Some-clause-apart
-returns-in-Some-clause-apart g c = λ apart.
-    let h = c.turns.invariant in
-    c.advance_on-turn.ensures.apart (owned_still c.args.bank.now c.turns.bank (thread_of c.args.resident.now.context)
-    (thread_of c.turns.resident.context) h.bank.owner h.same.thread apart)
-    ∙ h.apart apart
+    let apart = owned_before c.args.bank.now bank (thread_of first) (thread_of old) h.bank.owner h.same.thread need.apart in
+    record {
+      turns = (
+        has_made was (guest_on bank old) (guest_on after new) c.turns.turns (made_by old new) h.run h.runs later need.none need.same need.runs,
+        c.turns-test.true,
+        apart,
+        quiet_next was (guest_on bank old) (guest_on after new) c.turns.turns (made_by old new) h.run h.runs later (h.quiet apart),
+        needs_there (config_of new) (config_of old) (state_on new after) (state_on old bank) e.same.config need.same need.needs,
+      );
+      gives = gives_more g.P.Port.gives g.P.Port.name g.P.Port.tells _ _ _ _ _ _ (thread_of first) (thread_of old) _ (made_by old new) _
+          (is_answers was (guest_on bank old) (guest_on after new) c.turns.turns (made_by old new) h.run h.runs later)
+          h.same.thread h.gives e.gives;
+      on = e.on;
+      bank = record { vl = e.bank.vl ∙ h.bank.vl; svl = e.bank.svl ∙ h.bank.svl; owner = e.bank.owner ∙ h.bank.owner };
+      apart = λ apart. e.apart (owned_still c.args.bank.now c.turns.bank (thread_of c.args.resident.now.context)
+          (thread_of c.turns.resident.context) h.bank.owner h.same.thread apart) ∙ h.apart apart;
+      same = record {
+        config = e.same.config ∙ h.same.config;
+        thread = e.same.thread ∙ h.same.thread;
+        image = e.same.image ∙ h.same.image;
+      };
+    }
