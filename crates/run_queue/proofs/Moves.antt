@@ -19,13 +19,13 @@ use Rattle.run_queue.specs.declared.view.Role.{Role}
 use Rattle.run_queue.specs.declared.view.Role.TheVariants.{Unopened, First, Numbered, Spent}
 use Rattle.run_queue.specs.declared.view.PassView.{PassView}
 use Rattle.run_queue.specs.Ticketed.{Ticketed}
-use Rattle.run_queue.specs.Counts.{total, occurrences, once_below, without}
+use Rattle.thread_lists.specs.Counts.{total, occurrences, once_below, without}
 use Rattle.run_queue.specs.Passes.{known_threads, pass_with, is_first_pass, is_numbered, is_in_use, given_in, with_back}
 use Rattle.run_queue.specs.Passes.{unopened, spent, opened, after_split, split_off, after_join, after_offer, after_fetch}
 use Rattle.run_queue.specs.Passes.{HasFetched, HoldsRest}
 use Rattle.run_queue.specs.Rule.{threads_in, AreOf, Fits, IsEachOnce, StoodWith, WasEmpty}
-use Rattle.run_queue.proofs.Sums.{mark, mark_same, once_in, once_out, occurrences-append, occurrences-without, range-once}
-use Rattle.run_queue.proofs.Sums.{total-set, total-push, le-total, total-one, pigeons}
+use Rattle.thread_lists.proofs.Sums.{mark, mark_same, once_in, once_out, occurrences-append, occurrences-without, range-once}
+use Rattle.thread_lists.proofs.Sums.{total-set, total-push, le-total, total-one, pigeons}
 
 -- ---- of each pass, where one changes and where one comes
 

@@ -1,5 +1,4 @@
 pub mod Ticketed
-pub mod Counts
 pub mod Passes
 pub mod Rule
 pub mod Queues

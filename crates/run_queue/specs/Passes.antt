@@ -9,7 +9,7 @@ use Rattle.run_queue.specs.declared.view.Role.{Role}
 use Rattle.run_queue.specs.declared.view.Role.TheVariants.{Unopened, First, Numbered, Spent}
 use Rattle.run_queue.specs.declared.view.PassView.{PassView}
 use Rattle.run_queue.specs.Ticketed.{Ticketed}
-use Rattle.run_queue.specs.Counts.{occurrences, once_below, without}
+use Rattle.thread_lists.specs.Counts.{occurrences, once_below, without}
 
 -- how many threads there are, where the origin is known
 abbrev pub known_threads : Option Origin → ℕ

@@ -10,7 +10,7 @@ use Rattle.run_queue.specs.declared.view.Role.{Role}
 use Rattle.run_queue.specs.declared.view.Role.TheVariants.{Unopened, First, Numbered, Spent}
 use Rattle.run_queue.specs.declared.view.PassView.{PassView}
 use Rattle.run_queue.specs.Ticketed.{Ticketed}
-use Rattle.run_queue.specs.Counts.{total, occurrences, once_below}
+use Rattle.thread_lists.specs.Counts.{total, occurrences, once_below}
 use Rattle.run_queue.specs.Passes.{known_threads}
 
 -- the threads of some contexts

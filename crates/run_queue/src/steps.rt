@@ -3,7 +3,7 @@ ghost use Rattle.std.specs.Prelude.{◌≡◌, ◌<◌, false, Some, is_none, If
 ghost use Rattle.crossbeam_queue.specs.Passes.{view};
 ghost use Rattle.kernel_contexts.specs.Context.{thread_of};
 ghost use Rattle.run_queue.specs.Ticketed.{origin_in, ticketed};
-ghost use Rattle.run_queue.specs.Counts.{occurrences};
+ghost use Rattle.thread_lists.specs.Counts.{occurrences};
 ghost use Rattle.run_queue.specs.Passes.{after_offer, HasFetched};
 ghost use Rattle.run_queue.specs.Rule.{WasEmpty};
 ghost use Rattle.run_queue.specs.Queues.{IsPassFor, origin_of, threads_held};

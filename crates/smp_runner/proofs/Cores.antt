@@ -19,10 +19,10 @@ use Rattle.core_unit.specs.declared.run.RunWhy.TheVariants.{Spent, Yielded, Stop
 use Rattle.run_queue.specs.declared.origin.Origin.{Origin}
 use Rattle.run_queue.specs.declared.view.PassView.{PassView}
 use Rattle.run_queue.specs.Ticketed.{Ticketed, origin_from}
-use Rattle.run_queue.specs.Counts.{occurrences}
+use Rattle.thread_lists.specs.Counts.{occurrences}
 use Rattle.run_queue.specs.Passes.{known_threads, after_offer, HasFetched}
 use Rattle.run_queue.specs.Rule.{threads_in, AreOf}
-use Rattle.run_queue.proofs.Sums.{mark_same}
+use Rattle.thread_lists.proofs.Sums.{mark_same}
 use Rattle.smp_runner.specs.Contexts.{ticketed_held, residents_in, stopped_in, IsSameCore, HasStopped, IsSameTicketed, Holds, HoldsWith, HasEnded, IsOf}
 use Rattle.smp_runner.proofs.Holding.{IsFrom, starts, got, goes_on, stops, room, collects, is_held, gives, ends, of_known}
 

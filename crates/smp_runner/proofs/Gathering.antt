@@ -8,10 +8,10 @@ use Rattle.run_queue.specs.declared.view.PassView.{PassView}
 use Rattle.run_queue.specs.declared.view.Role.{Role}
 use Rattle.run_queue.specs.declared.view.Role.TheVariants.{Unopened, First, Numbered, Spent}
 use Rattle.run_queue.specs.Ticketed.{Ticketed}
-use Rattle.run_queue.specs.Counts.{occurrences, once_below}
+use Rattle.thread_lists.specs.Counts.{occurrences, once_below}
 use Rattle.run_queue.specs.Passes.{known_threads, given_in, after_join, HasFetched, is_first_pass, HoldsRest, AreAllBack}
 use Rattle.run_queue.specs.Rule.{threads_in, AreOf}
-use Rattle.run_queue.proofs.Sums.{mark, occurrences-append}
+use Rattle.thread_lists.proofs.Sums.{mark, occurrences-append}
 use Rattle.smp_runner.specs.Contexts.{HasEnded, HasStopped, IsSameTicketed}
 use Rattle.smp_runner.specs.Gathered.{Gathered}
 use Rattle.smp_runner.proofs.Holding.{IsFrom, threads-push}

@@ -9,10 +9,10 @@ use Rattle.sm_types.specs.declared.config.Config.{Config}
 use Rattle.run_queue.specs.declared.origin.Origin.{Origin}
 use Rattle.run_queue.specs.declared.view.PassView.{PassView}
 use Rattle.run_queue.specs.Ticketed.{Ticketed}
-use Rattle.run_queue.specs.Counts.{occurrences, once_below}
+use Rattle.thread_lists.specs.Counts.{occurrences, once_below}
 use Rattle.run_queue.specs.Passes.{known_threads, after_offer, HasFetched}
 use Rattle.run_queue.specs.Rule.{threads_in}
-use Rattle.run_queue.proofs.Sums.{mark, mark_same, mark_other, once_in, once_out, occurrences-append, occurrences-without, pigeons}
+use Rattle.thread_lists.proofs.Sums.{mark, mark_same, mark_other, once_in, once_out, occurrences-append, occurrences-without, pigeons}
 use Rattle.smp_runner.specs.Contexts.{Holds, HasStopped, HasEnded, IsSameTicketed, IsSameHolder, IsOf}
 
 abbrev pub IsFrom : Option Origin → Ticketed → Type 0

@@ -11,7 +11,7 @@ use Rattle.sm_types.specs.declared.shared_words.Words.{Words}
 use Rattle.shared_region.specs.History.{part_of, AreOneHistory}
 use Rattle.run_queue.specs.declared.origin.Origin.{Origin}
 use Rattle.run_queue.specs.Ticketed.{Ticketed}
-use Rattle.run_queue.specs.Counts.{occurrences, once_below}
+use Rattle.thread_lists.specs.Counts.{occurrences, once_below}
 use Rattle.run_queue.specs.Passes.{known_threads}
 use Rattle.run_queue.specs.Rule.{threads_in, AreOf}
 use Rattle.smp_runner.specs.Contexts.{HasStopped}

@@ -16,10 +16,3 @@ book_at journals k n = map Back journals ++ (replicate k Out ++ replicate (32 - 
 pub record IsWithoutSplits (origin : Origin) (v : PassView) : Type 0 where
   pub role : v.role ≡ First []
   pub origin_of : v.origin ≡ Some origin
-
--- one was taken out of a list
-pub record IsWithout {X : Type 0} (old : List X) (x : X) (new : List X) : Type 0 where
-  pub front : List X
-  pub back : List X
-  pub was : old ≡ front ++ x ∷ back
-  pub is : new ≡ front ++ back

@@ -9,7 +9,7 @@ use Rattle.core_unit.specs.Guest.{Held}
 use Rattle.run_queue.specs.declared.origin.Origin.{Origin}
 use Rattle.run_queue.specs.declared.view.PassView.{PassView}
 use Rattle.run_queue.specs.Ticketed.{Ticketed, ticketed, origin_from}
-use Rattle.run_queue.specs.Counts.{occurrences, once_below}
+use Rattle.thread_lists.specs.Counts.{occurrences, once_below}
 use Rattle.run_queue.specs.Passes.{known_threads}
 use Rattle.run_queue.specs.Rule.{threads_in, AreOf}
 

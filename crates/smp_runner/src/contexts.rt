@@ -1,5 +1,5 @@
 //! The contexts of all threads, from their start into the queue, and in order at the end.
-ghost use Rattle.std.specs.Prelude.{◌≡◌, ◌+◌, ℕ, [], All, map, IfOk, OnOk, IfSome, IfNone, Some};
+ghost use Rattle.std.specs.Prelude.{◌≡◌, ℕ, [], All, map, IfOk, OnOk, Some};
 ghost use Rattle.std.specs.List.{range_with_len};
 ghost use Rattle.crossbeam_queue.specs.Passes.{view};
 ghost use Rattle.kernel_contexts.specs.Context.{thread_of, journal_of};
@@ -7,20 +7,20 @@ ghost use Rattle.shared_table.specs.declared.view.SeatView.TheVariants.{Maker};
 ghost use Rattle.shared_table.specs.Views.{new_book};
 ghost use Rattle.shared_table.specs.Seats.{view_of, seat_name, table_name};
 ghost use Rattle.run_queue.specs.Ticketed.{origin_from};
-ghost use Rattle.run_queue.specs.Counts.{occurrences, once_below};
+ghost use Rattle.thread_lists.specs.Counts.{occurrences, once_below};
 ghost use Rattle.run_queue.specs.Passes.{opened};
 ghost use Rattle.run_queue.specs.Queues.{IsPassFor, threads_held};
-ghost use Rattle.smp_runner.specs.Books.{book_at, IsWithoutSplits, IsWithout};
+ghost use Rattle.smp_runner.specs.Books.{book_at, IsWithoutSplits};
 ghost use Rattle.smp_runner.specs.Ended.{IsAtItsStop};
 
 use kernel_contexts::{Context, Whole};
 use paged_memory::Image;
 use run_queue::{ContextQueue, QueuePass};
-use shared_region::Port;
 use shared_table::{Seat, SeatPort, SharedTable};
 use sm_types::{Config, Memory};
 use std::alloc::Global;
 use std::sync::Wait;
+use thread_lists::sort_by_number;
 
 /// Puts a context with a seat for each thread into the queue, in order. `Memory` is want of memory.
 pub fn start_all<'t, R: Wait>(
@@ -56,21 +56,6 @@ pub fn start_all<'t, R: Wait>(
     Ok(())
 }
 
-/// Takes the context of a thread out of a list.
-fn take_thread<P: Port>(all: &mut Vec<Whole<P>>, thread: u32) -> Option<Whole<P>>
-    ensures some { IfSome result (λ w. (thread_of w.context ≡ thread)
-        × IsWithout all.old.items w all.new.items) }
-    ensures none { IfNone result ((all.new.items ≡ all.old.items)
-        × All (λ w. ¬ (thread_of w.context ≡ thread)) all.old.items) }
-{
-    for i in 0..all.len() {
-        if all[i].context.thread() == thread {
-            return Some(all.remove(i));
-        }
-    }
-    None
-}
-
 /// Takes all seats back, and gives the contexts in order of their threads. `Memory` is want of memory.
 pub fn in_order<'t>(
     alloc: Global,
@@ -93,19 +78,15 @@ pub fn in_order<'t>(
         ≡ range_with_len 0 config.now.threads) }
     ensures ended { IfOk result (λ cs. All (IsAtItsStop image.now config.now) cs.items) }
 {
+    sort_by_number(&mut all);
     let mut contexts = Vec::new(alloc);
-    if contexts.reserve(config.threads as usize).is_err() {
+    if contexts.reserve(all.len()).is_err() {
         return Err(Memory);
     }
-    for thread in 0..config.threads {
-        match take_thread(&mut all, thread) {
-            Some(whole) => {
-                let Whole { context, ticket } = whole;
-                table.join(maker, ticket);
-                contexts.push_reserved(context);
-            }
-            None => unreachable!(),
-        }
+    for whole in all {
+        let Whole { context, ticket } = whole;
+        table.join(maker, ticket);
+        contexts.push_reserved(context);
     }
     Ok(contexts)
 }

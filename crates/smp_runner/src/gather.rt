@@ -4,7 +4,7 @@ ghost use Rattle.crossbeam_queue.specs.Passes.{view};
 ghost use Rattle.sm_types.specs.declared.shared_op.SharedOp.{SharedOp};
 ghost use Rattle.shared_region.specs.Tickets.{IsAllowed};
 ghost use Rattle.run_queue.specs.Ticketed.{ticketed};
-ghost use Rattle.run_queue.specs.Counts.{occurrences, once_below};
+ghost use Rattle.thread_lists.specs.Counts.{occurrences, once_below};
 ghost use Rattle.run_queue.specs.Passes.{is_numbered, given_in, known_threads, AreAllBack};
 ghost use Rattle.run_queue.specs.Queues.{IsPassFor, role_of, origin_of};
 ghost use Rattle.run_queue.specs.Rule.{threads_in};

@@ -23,8 +23,8 @@ use sm_types::{Config, Memory};
 use std::sync::Wait;
 use std::thread;
 
-/// Fetches once, where the core has no resident, or one and there are more threads than workers. What comes is
-/// the last resident.
+/// Fetches once, where the core has no resident, or one and there are more threads than workers. What comes
+/// is the last resident.
 fn fetch_once<P: Port, R: Wait>(
     rt: &R,
     config: &Config,
@@ -192,12 +192,12 @@ pub(crate) fn work<P: Port, R: Wait, G: Gate>(
 /// are empty. All of them are for threads with these options and with seats of the port's table.
 ///
 /// A turn of the worker is one fetch, where the core has no resident, or has one and there are more threads
-/// than workers that have begun: else what it would fetch is left to a worker that has none. Where it then has
-/// a resident, the turn is the gate's `pass` with the first one's thread, a run of `slice` turns, the moving
-/// of stopped contexts to `done`, and, where two residents are left, an offer of the first one. Where the run
-/// ended as the thread yields, the worker gives the host's processor away, since that thread waits for others;
-/// and so it does where it has no resident. The gate is told the number of turns that had a resident; at the
-/// last `u64` it stays.
+/// than workers that have begun: else what it would fetch is left to a worker that has none. Where it then
+/// has a resident, the turn is the gate's `pass` with the first one's thread, a run of `slice` turns, the
+/// moving of stopped contexts to `done`, and, where two residents are left, an offer of the first one. Where
+/// the run ended as the thread yields, the worker gives the host's processor away, since that thread waits
+/// for others; and so it does where it has no resident. The gate is told the number of turns that had a
+/// resident; at the last `u64` it stays.
 ///
 /// After `Ok` the core is empty, and `done` has exactly the threads that the pass holds, each stopped, from
 /// the image and the options that the pass knows, and with a seat of the port's table; the last fetch found

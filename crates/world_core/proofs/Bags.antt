@@ -1,5 +1,5 @@
 -- The threads of a world, counted: an event moves them, and loses and doubles none.
-use Rattle.std.proofs.Common.{◌≡◌, ◌≢◌, ℕ, zero, suc, ◌+◌, ◌<◌, ◌≤◌, ◌++◌, ◌==◌, if◌then◌else◌, Bool, true, false, cond, List, [], ◌∷◌, length, refl, ap, sym, ◌∙◌, subst, arith, Option, Some, None}
+use Rattle.std.proofs.Common.{◌≡◌, ◌≢◌, ℕ, zero, suc, ◌+◌, ◌<◌, ◌≤◌, ◌++◌, ◌==◌, if◌then◌else◌, Bool, true, false, cond, List, [], ◌∷◌, length, map, refl, ap, sym, ◌∙◌, subst, arith, Option, Some, None}
 use Rattle.std.specs.Prelude.{slice_get, slice_set, nat_le, nat_lt, All}
 use Rattle.std.proofs.lemmas.Bool.Decides.{nat_tests}
 use Rattle.std.proofs.lemmas.List.Elements.{All-cons, All-nil}
@@ -16,15 +16,13 @@ use Rattle.world_core.specs.declared.event.Why.{Why}
 use Rattle.sm_types.specs.declared.config.Config.{Config}
 use Rattle.world_core.specs.Parts.{HasRoom, guests_in}
 use Rattle.world_core.specs.Serve.{Service, Going, GaveWay, HasStopped, serve, begins}
-use Rattle.world_core.specs.World.{World, threads_of, residents_of, total, times, once_below, IsOwned}
+use Rattle.thread_lists.specs.Counts.{total, occurrences, once_below}
+use Rattle.thread_lists.proofs.Sums.{total-append}
+use Rattle.world_core.specs.World.{World, threads_of, residents_of, times, IsOwned}
 use Rattle.sm_types.specs.declared.world_event.WorldEvent.{WorldEvent}
 use Rattle.sm_types.specs.declared.world_event.WorldEvent.TheVariants as event
 use Rattle.world_core.specs.declared.event.Applied.{Applied}
 use Rattle.world_core.specs.declared.event.Applied.TheVariants as applied
-
-pub total-append : {A : Type 0} (f : A → ℕ) (xs ys : List A) → total f (xs ++ ys) ≡ total f xs + total f ys
-total-append f [] ys = omega arith
-total-append f (x ∷ xs) ys = let h = total-append f xs ys in omega (arith, h)
 
 pub total-set : {A : Type 0} (f : A → ℕ) (xs : List A) (i : ℕ) (x y : A) → slice_get xs i ≡ Some x
     → total f (slice_set xs i y) + f x ≡ total f xs + f y
@@ -40,6 +38,12 @@ total_has f (z ∷ zs) (suc i) x get = let h = total_has f zs i x get in omega (
 pub total_ones : {A : Type 0} (xs : List A) → total (λ x. 1) xs ≡ length xs
 total_ones [] = refl
 total_ones (x ∷ xs) = let h = total_ones xs in omega (arith, h)
+
+-- a number is as often among the threads' numbers as a thread of this number is among the threads
+pub occurrences-numbers : {X : Type 0} (guest : X → Guest) (t : ℕ) (xs : List X)
+    → occurrences t (map (λ x. (guest x).number) xs) ≡ times t (map guest xs)
+occurrences-numbers guest t [] = refl
+occurrences-numbers guest t (x ∷ xs) = let rest = occurrences-numbers guest t xs in omega (arith, rest)
 
 -- the first resident after its turns
 abbrev pub served_guest : Guest → Service → Guest

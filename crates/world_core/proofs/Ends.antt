@@ -1,6 +1,7 @@
 -- The end of a serial run: each thread is at the end of its lone run over its journal, and the journals are one history.
 use Rattle.std.proofs.Common.{◌≡◌, ℕ, zero, suc, ◌+◌, ◌*◌, ◌<◌, ◌≤◌, true, List, [], ◌∷◌, map, length, refl, ap, sym, ◌∙◌, subst, Option, Some, None}
 use Rattle.std.specs.Prelude.{slice_get, is_some, Contains, All}
+use Rattle.std.proofs.lemmas.List.{length-map}
 use Rattle.std.proofs.lemmas.List.Elements.{All-contains, All-from_recursion}
 use Rattle.std.proofs.lemmas.Option.{same_Some, none-some}
 use Rattle.sm_types.specs.declared.config.Config.{Config}
@@ -19,6 +20,7 @@ use Rattle.core_unit.specs.Guest.{Guest, guest_of}
 use Rattle.world_core.specs.Finish.{AreThreadsOf}
 use Rattle.world_core.specs.Kept.{Stands, IsKept, HasStopped}
 use Rattle.world_core.specs.World.{World, threads_of}
+use Rattle.world_core.proofs.Lists.{get_back}
 
 -- a thread that goes on has made few turns
 running_few : (program : Program) (config : Config) (thread : ℕ) (journal : List Event) (s : State) (stop : Option Stop)
@@ -38,16 +40,6 @@ lone_end : (program : Program) (config : Config) (thread : ℕ) (journal : List 
 lone_end program config thread journal s (Some at) some run =
     (at, refl, record { turns = s.turns + 1; used = length journal; ends = run })
 lone_end program config thread journal s None some run = cc
-
-get_back : {A B : Type 0} (f : A → B) (xs : List A) (i : ℕ) (y : B) → slice_get (map f xs) i ≡ Some y
-    → (x : A) × (slice_get xs i ≡ Some x) × (f x ≡ y)
-get_back f [] i y get = absurd (none-some y get)
-get_back f (x ∷ xs) zero y get = (x, refl, same_Some (f x) y get)
-get_back f (x ∷ xs) (suc i) y get = get_back f xs i y get
-
-length-map : {A B : Type 0} (f : A → B) (xs : List A) → length (map f xs) ≡ length xs
-length-map f [] = refl
-length-map f (x ∷ xs) = ap suc (length-map f xs)
 
 module _ (program : Program) (config : Config) (w : World) (contexts : List Context) (words : Words) (h : IsKept program w)
     (same : w.config ≡ config) (done : threads_of w ≡ w.done) (e : AreThreadsOf w contexts words) where
@@ -72,7 +64,7 @@ module _ (program : Program) (config : Config) (w : World) (contexts : List Cont
       record { home = t.home; number = t.number_of; stop = end.0; stopped = end.1; run = end.2 }
 
   counted : length (map journal_of contexts) ≡ w.config.threads
-  counted = length-map journal_of contexts ∙ e.count
+  counted = length-map contexts journal_of ∙ e.count
 
   parts : (t : ℕ) (journal : List Event) → slice_get (map journal_of contexts) t ≡ Some journal → part_of t w.history ≡ journal
   parts t journal get =

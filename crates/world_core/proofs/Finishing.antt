@@ -1,10 +1,21 @@
--- The threads of a world, put together.
-use Rattle.std.proofs.Common.{◌≡◌, ℕ, ◌++◌, ◌==◌, if◌then◌else◌, List, ap, subst, arith, inl, inr}
-use Rattle.std.specs.Prelude.{Contains}
+-- The threads of a world, put together and in the order of their numbers.
+use Rattle.std.proofs.Common.{◌≡◌, ℕ, ◌+◌, ◌++◌, ◌==◌, ◌<◌, if◌then◌else◌, true, List, [], ◌∷◌, map, length, get_or, refl, sym, ap, ◌∙◌, subst, arith, inl, inr}
+use Rattle.std.specs.Prelude.{Some, Contains, IsPermutation, slice_get}
+use Rattle.std.specs.List.{range_with_len}
+use Rattle.std.specs.Option.{option_map}
+use Rattle.std.proofs.lemmas.List.{length-map}
 use Rattle.std.proofs.lemmas.List.Elements.{Contains-append_left, Contains-append_right, Contains-append_cases}
-use Rattle.core_unit.specs.Guest.{Guest}
-use Rattle.world_core.specs.World.{World, threads_of, residents_of, total, times, once_below, IsOwned}
-use Rattle.world_core.proofs.Bags.{total-append}
+use Rattle.std.proofs.lemmas.List.FromFn.{length-range_with_len, get_or-range_with_len}
+use Rattle.std.proofs.lemmas.List.Sorted.{IsPermutation-sym, IsPermutation-map, Contains-permutation}
+use Rattle.std.proofs.lemmas.Option.{same_Some, slice_get-map, slice_get-get_or, slice_get_within}
+use Rattle.kernel_contexts.specs.Context.{thread_of, is_home}
+use Rattle.kernel_contexts.specs.declared.context.Context.{Context}
+use Rattle.core_unit.specs.Guest.{Guest, guest_of}
+use Rattle.thread_lists.specs.Counts.{total, once_below}
+use Rattle.thread_lists.proofs.Sums.{total-append}
+use Rattle.world_core.specs.Finish.{IsPlaced}
+use Rattle.world_core.specs.World.{World, threads_of, residents_of, times, IsOwned}
+use Rattle.world_core.proofs.Lists.{get_back, among_itself}
 
 module _ (w : World) (all : List Guest) (is : all ≡ (w.done ++ w.queue) ++ residents_of w.cores) where
   pub all_once : IsOwned w → (t : ℕ) → times t all ≡ once_below t w.config.threads
@@ -28,3 +39,37 @@ module _ (w : World) (all : List Guest) (is : all ≡ (w.done ++ w.queue) ++ res
 
   pub all_among : (g : Guest) → Contains all g → Contains (threads_of w) g
   all_among g h = among_parts g (subst (λ (l : List Guest). Contains l g) is h)
+
+-- ---- contexts without their tickets
+
+pub all_home : {X : Type 0} (context : X → Context) → ((x : X) → is_home (context x) ≡ true) → (xs : List X) (contexts : List Context)
+    → contexts ≡ map context xs → (k : ℕ) (c : Context) → slice_get contexts k ≡ Some c → is_home c ≡ true
+all_home context home xs contexts are k c get =
+    let found = get_back context xs k c (ap (λ l. slice_get l k) (sym are) ∙ get) in ap is_home (sym found.2) ∙ home found.0
+
+-- and in the order of their threads' numbers
+
+module _ {X : Type 0} (context : X → Context) (home : (x : X) → is_home (context x) ≡ true) (all sorted : List X)
+    (bound : ℕ) (same : IsPermutation all sorted) (order : map (λ x. thread_of (context x)) sorted ≡ range_with_len 0 bound) where
+  pub sorted_count : length sorted ≡ bound
+  sorted_count = sym (length-map sorted (λ x. thread_of (context x))) ∙ ap length order ∙ length-range_with_len 0 bound
+
+  number_at : (k : ℕ) (x : X) → slice_get sorted k ≡ Some x → thread_of (context x) ≡ k
+  number_at k x at =
+      let number = λ (y : X). thread_of (context y) in
+      let less : k < bound = omega (arith, slice_get_within sorted k x at, sorted_count) in
+      let here = sym (slice_get-map number sorted k ∙ ap (option_map number) at) ∙ ap (λ l. slice_get l k) order
+      ∙ slice_get-get_or (range_with_len 0 bound) k 0 (omega (arith, less, length-range_with_len 0 bound)) in
+      let is = same_Some (number x) (get_or (range_with_len 0 bound) k 0) here in
+      omega (arith, is, get_or-range_with_len 0 bound k 0 less)
+
+  pub placed : (contexts : List Context) → contexts ≡ map context sorted → (k : ℕ) (c : Context) → slice_get contexts k ≡ Some c
+      → IsPlaced (map (λ x. guest_of (context x)) all) k c
+  placed contexts are k c get =
+      let guest = λ (x : X). guest_of (context x) in
+      let found = get_back context sorted k c (ap (λ l. slice_get l k) (sym are) ∙ get) in
+      let x = found.0 in
+      let at = found.1 in
+      let among = Contains-permutation (map guest sorted) (map guest all) (guest x)
+      (IsPermutation-map guest sorted all (IsPermutation-sym all sorted same)) (among_itself guest sorted k x at) in
+      subst (IsPlaced (map guest all) k) found.2 (record { home = home x; number_of = number_at k x at; among = among })

@@ -22,7 +22,8 @@ use Rattle.world_core.specs.Kept.{Stands, IsKept}
 use Rattle.world_core.specs.Kept.{Goes as HasGone}
 use Rattle.world_core.specs.Serial.{residents_at, filling, event_in, serial_event, phase_after, LeadSerially}
 use Rattle.world_core.specs.Serve.{Progress, Service, Going, GaveWay, HasStopped, service_after, served, serve, begins}
-use Rattle.world_core.specs.World.{World, threads_of, residents_of, total}
+use Rattle.thread_lists.specs.Counts.{total}
+use Rattle.world_core.specs.World.{World, threads_of, residents_of}
 use Rattle.sm_types.specs.declared.world_event.WorldEvent.{WorldEvent}
 use Rattle.sm_types.specs.declared.world_event.WorldEvent.TheVariants.{Run, Next, Fetch, Offer}
 use Rattle.world_core.specs.declared.event.Why.TheVariants.{CoreFull}

@@ -3,6 +3,7 @@ use Rattle.std.proofs.Common.{◌≡◌, ◌≢◌, ℕ, zero, suc, ◌+◌, ◌
 use Rattle.std.specs.Prelude.{slice_get, slice_set, nat_le, nat_lt, replicate, All, is_some}
 use Rattle.std.specs.List.{range_with_len}
 use Rattle.std.specs.List.{AllByRecursion as Each}
+use Rattle.std.proofs.lemmas.List.{map-id}
 use Rattle.std.proofs.lemmas.List.Elements.{All-nil}
 use Rattle.std.proofs.lemmas.Bool.Decides.{nat_tests}
 use Rattle.sm_types.specs.declared.config.Config.{Config}
@@ -21,14 +22,16 @@ use Rattle.world_core.specs.Happens.{after_service, moved, refused, with_scene, 
 use Rattle.world_core.specs.Kept.{Stands, Goes, IsKept}
 use Rattle.world_core.specs.Kept.{HasStopped as HasEnded}
 use Rattle.world_core.specs.Serve.{Progress, Service, Going, GaveWay, HasStopped, serve, begins}
-use Rattle.world_core.specs.World.{World, threads_of, residents_of, start_world, starting, total, times, once_below, IsOwned}
+use Rattle.thread_lists.specs.Counts.{total, occurrences, once_below}
+use Rattle.thread_lists.proofs.Sums.{range-once}
+use Rattle.world_core.specs.World.{World, threads_of, residents_of, start_world, starting, times, IsOwned}
 use Rattle.sm_types.specs.declared.world_event.WorldEvent.{WorldEvent}
 use Rattle.sm_types.specs.declared.world_event.WorldEvent.TheVariants as event
 use Rattle.world_core.specs.declared.event.Why.{Why}
 use Rattle.world_core.specs.declared.event.Why.TheVariants.{CoreFull}
 use Rattle.std.proofs.lemmas.List.FromFn.{length-map-range_with_len}
 use Rattle.world_core.specs.Parts.{HasRoom}
-use Rattle.world_core.proofs.Bags.{total_ones, owned_on, threads-bag, total-set, one_of_itself, once_at_most}
+use Rattle.world_core.proofs.Bags.{total_ones, occurrences-numbers, owned_on, threads-bag, total-set, one_of_itself, once_at_most}
 use Rattle.world_core.proofs.Eachs.{each_map, each_last, core_here, core_set, core_more, core_none, EachPart, parts_of, parts_all, each_apart}
 use Rattle.world_core.proofs.Keeps.{Keeps, KeepsService, keeps, begins_kept}
 
@@ -294,35 +297,10 @@ module _ (program : Program) (w : World) (h : IsKept program w) where
 
 -- ---- the start
 
-range_none : (program : Program) (config : Config) (t a n : ℕ) → (t < a) ⊎ (a + n ≤ t)
-    → times t (map (starting program config) (range_with_len a n)) ≡ 0
-range_none program config t a zero out = refl
-range_none program config t a (suc n) (inl less) =
-    let rest = range_none program config t (a + 1) n (inl (omega (arith, less))) in
-    let first : ◌≡◌ {A = ℕ} (if a == t then 1 else 0) 0 = grind (arith, nat_tests) in omega (arith, rest, first)
-range_none program config t a (suc n) (inr more) =
-    let rest = range_none program config t (a + 1) n (inr (omega (arith, more))) in
-    let first : ◌≡◌ {A = ℕ} (if a == t then 1 else 0) 0 = grind (arith, nat_tests) in omega (arith, rest, first)
-
-range_from : (program : Program) (config : Config) (t a n : ℕ) → a ≤ t → t < a + n → (below : Bool) → nat_lt a t ≡ below
-    → times t (map (starting program config) (range_with_len a n)) ≡ 1
-range_from program config t a zero low high below test = absurd (omega (arith, low, high))
-range_from program config t a (suc n) low high true test =
-    let less : a < t = grind (arith, nat_tests) in
-    let rest = range_from program config t (a + 1) n (omega (arith, less)) (omega (arith, high)) (nat_lt (a + 1) t) refl in
-    let first : ◌≡◌ {A = ℕ} (if a == t then 1 else 0) 0 = grind (arith, nat_tests) in omega (arith, rest, first)
-range_from program config t a (suc n) low high false test =
-    let same : a ≡ t = grind (arith, nat_tests) in
-    let rest = range_none program config t (a + 1) n (inl (omega (arith, same))) in
-    let first : ◌≡◌ {A = ℕ} (if a == t then 1 else 0) 1 = grind (arith, nat_tests) in omega (arith, rest, first)
-
-range_once : (program : Program) (config : Config) (t n : ℕ) (below : Bool) → nat_lt t n ≡ below
-    → times t (map (starting program config) (range_with_len 0 n)) ≡ (if below then 1 else 0)
-range_once program config t n true test =
-    let less : t < n = grind (arith, nat_tests) in
-    range_from program config t 0 n (omega arith) (omega (arith, less)) (nat_lt 0 t) refl
-range_once program config t n false test =
-    let past : n ≤ t = grind (arith, nat_tests) in range_none program config t 0 n (inr (omega (arith, past)))
+range_once : (program : Program) (config : Config) (t n : ℕ) → times t (map (starting program config) (range_with_len 0 n)) ≡ once_below t n
+range_once program config t n =
+    sym (occurrences-numbers (starting program config) t (range_with_len 0 n)) ∙ ap (occurrences t) (map-id (range_with_len 0 n))
+    ∙ range-once t n
 
 none_resident : (f : Guest → ℕ) (n : ℕ) → total (λ gs. total f gs) (replicate n []) ≡ 0
 none_resident f zero = refl
@@ -332,7 +310,7 @@ pub start_owned : (program : Program) (config : Config) → IsOwned (start_world
 start_owned program config = λ t.
     let f : Guest → ℕ = λ g. if g.number == t then 1 else 0 in
     let a = threads-bag f (start_world program config) in
-    let b = range_once program config t config.threads (nat_lt t config.threads) refl in
+    let b = range_once program config t config.threads in
     let c = none_resident f config.cores in
     omega (arith, a, b, c)
 

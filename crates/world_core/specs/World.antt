@@ -1,11 +1,12 @@
 -- The world of the guest threads and the cores.
-use Rattle.std.specs.Prelude.{◌≡◌, ℕ, ◌+◌, ◌++◌, ◌==◌, nat_lt, if◌then◌else◌, List, [], ◌∷◌, None}
+use Rattle.std.specs.Prelude.{◌≡◌, ℕ, ◌++◌, ◌==◌, if◌then◌else◌, List, [], ◌∷◌, None}
 use Rattle.std.specs.Prelude.{map, replicate}
 use Rattle.std.specs.List.{range_with_len}
 use Rattle.sm_types.specs.declared.config.Config.{Config}
 use Rattle.sm_types.specs.declared.shared_words.Entry.{Entry}
 use Rattle.paged_memory.specs.Image.{Program}
 use Rattle.kernel_contexts.specs.State.{start_state}
+use Rattle.thread_lists.specs.Counts.{total, once_below}
 use Rattle.core_unit.specs.Guest.{Guest}
 
 -- the options, the queue, the residents of each core, of which the first one makes turns, the threads that
@@ -50,18 +51,9 @@ residents_of (residents ∷ cores) = residents ++ residents_of cores
 abbrev pub threads_of : World → List Guest
 threads_of w = w.queue ++ residents_of w.cores ++ w.done
 
--- the numbers of some items, added up
-abbrev pub total : {A : Type 0} → (A → ℕ) → List A → ℕ
-total f [] = 0
-total f (x ∷ xs) = f x + total f xs
-
 -- how often a thread of this number is among some
 abbrev pub times : ℕ → List Guest → ℕ
 times t threads = total (λ g. if g.number == t then 1 else 0) threads
-
--- once, if it is one of so many threads
-abbrev pub once_below : ℕ → ℕ → ℕ
-once_below t threads = if nat_lt t threads then 1 else 0
 
 -- each thread of the options is exactly once in the queue, in one core's residents, or among those that are
 -- done, and no other is

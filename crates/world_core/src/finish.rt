@@ -1,11 +1,7 @@
-//! The threads of a world at its end, in the order of their numbers.
-ghost use Rattle.std.specs.Prelude.{◌≡◌, ◌+◌, ◌<◌, ◌≤◌, ◌++◌, ℕ, Some, IfOk, length, map, slice_get, vec_len};
-ghost use Rattle.std.specs.Prelude.{vec_capacity};
-ghost use Rattle.kernel_contexts.specs.Context.{thread_of};
-ghost use Rattle.kernel_contexts.specs.declared.context.Context.{Context};
-ghost use Rattle.world_core.specs.Finish.{IsPlaced};
+//! The threads of a world at its end.
+ghost use Rattle.std.specs.Prelude.{◌≡◌, ◌+◌, ◌≤◌, ◌++◌, IfOk, length, map, vec_len, vec_capacity};
 ghost use Rattle.world_core.specs.Parts.{guests_of, core_guests};
-ghost use Rattle.world_core.specs.World.{residents_of, times, once_below};
+ghost use Rattle.world_core.specs.World.{residents_of};
 
 use core_unit::Core;
 use kernel_contexts::{Context, Whole};
@@ -37,40 +33,13 @@ pub fn empty_cores(cores: &mut Vec<Core<PlainPort>>, into: &mut Vec<Whole<PlainP
     }
 }
 
-/// The place of the thread of that number, which is there.
-fn place_of(threads: &[Whole<PlainPort>], number: u32) -> usize
-    requires { 0 < times number (guests_of threads.now) }
-    ensures within { result < length threads.now }
-    ensures number { (w : _) → slice_get threads.now result ≡ Some w → thread_of w.context ≡ number }
+/// Some contexts without their tickets. `Memory` is want of memory.
+pub fn contexts_of(alloc: Global, threads: Vec<Whole<PlainPort>>) -> Result<Vec<Context>, Memory>
+    ensures { IfOk result (λ contexts. contexts.items ≡ map (λ w. w.context) threads.items) }
 {
-    'places: for index in 0..threads.len() {
-        if threads[index].context.thread() == number {
-            return index;
-        }
-    }
-    unreachable!()
-}
-
-/// The contexts of some threads, in the order of their numbers: each number below a bound is there once,
-/// and no other. `Memory` is want of memory.
-pub fn in_order(
-    alloc: Global,
-    mut threads: Vec<Whole<PlainPort>>,
-    bound: u32,
-) -> Result<Vec<Context>, Memory>
-    requires once { (t : ℕ) → times t (guests_of threads.items) ≡ once_below t bound }
-    ensures count { IfOk result (λ contexts. length contexts.items ≡ bound) }
-    ensures each { IfOk result (λ contexts. (k : ℕ) (c : Context) → slice_get contexts.items k ≡ Some c
-        → IsPlaced (guests_of threads.items) k c) }
-{
-    let mut contexts = Vec::new(alloc);
-    if contexts.reserve(bound as usize).is_err() {
-        return Err(Memory);
-    }
-    'numbers: for number in 0..bound {
-        let index = place_of(&threads, number);
-        let Whole { context, ticket: _ } = threads.remove(index);
-        contexts.push_reserved(context);
-    }
-    Ok(contexts)
+    threads
+        .into_iter()
+        .map(|whole| whole.context)
+        .collect(alloc)
+        .map_err(|_| Memory)
 }

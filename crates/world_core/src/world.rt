@@ -6,7 +6,7 @@ ghost use Rattle.world_core.specs.Parts.{HaveOptions, IsCoreOf, HasRoom, world_f
 ghost use Rattle.world_core.specs.World.{IsOwned};
 
 use crate::event::{Applied, Why, core_number};
-use crate::finish::{empty_cores, in_order};
+use crate::finish::{contexts_of, empty_cores};
 use crate::scene::{fetch, next, offer, run};
 use crate::serial::{Phase, event_in};
 use crate::start::{start_cores, start_threads};
@@ -16,6 +16,7 @@ use paged_memory::Image;
 use shared_region::PlainPort;
 use sm_types::{Config, Entry, Memory, WorldEvent};
 use std::alloc::Global;
+use thread_lists::sort_by_number;
 
 /// The world of the guest threads and the cores, over plain words. Each thread is exactly once in the
 /// queue, in one core's residents, or among those that are done.
@@ -143,7 +144,7 @@ impl World {
         ensures { IfOk result (λ run. AreThreadsOf (world_of self) run.contexts.items run.words) }
     {
         let World {
-            config,
+            config: _,
             mut queue,
             mut cores,
             mut done,
@@ -153,7 +154,8 @@ impl World {
             return Err(Memory);
         }
         empty_cores(&mut cores, &mut done);
-        let contexts = in_order(alloc, done, config.threads)?;
+        sort_by_number(&mut done);
+        let contexts = contexts_of(alloc, done)?;
         let words = *port.words();
         Ok(Finished { contexts, words })
     }

@@ -1,7 +1,7 @@
 use Rattle.std.proofs.Common.{◌<◌, ◌≤◌, ap, ◌∙◌, refl, arith}
 use Rattle.crossbeam_queue.specs.Passes.{view}
-use Rattle.run_queue.specs.Counts.{occurrences, without}
-use Rattle.run_queue.proofs.Sums.{range-once, once_out}
+use Rattle.thread_lists.specs.Counts.{occurrences, without}
+use Rattle.thread_lists.proofs.Sums.{range-once, once_out}
 use Rattle.smp_runner.proofs.Books.{book_opens, given, rest_more}
 use Rattle.smp_runner.proofs.contexts.start_all.Goals as goal
 

@@ -3,7 +3,7 @@ use Rattle.crossbeam_queue.specs.Passes.{view}
 use Rattle.shared_table.specs.declared.view.SeatView.TheVariants.{Maker}
 use Rattle.shared_table.specs.Seats.{view_of, seat_name, table_name}
 use Rattle.run_queue.specs.Ticketed.{origin_from}
-use Rattle.run_queue.specs.Counts.{occurrences, once_below}
+use Rattle.thread_lists.specs.Counts.{occurrences, once_below}
 use Rattle.run_queue.specs.Queues.{IsPassFor, threads_held}
 use Rattle.smp_runner.specs.Books.{book_at, IsWithoutSplits}
 use Rattle.smp_runner.proofs.contexts.start_all.Given as goal

@@ -1,6 +1,6 @@
 use Rattle.std.proofs.Common.{rules, subst, sym, ap, ◌∙◌}
 use Rattle.run_queue.specs.Ticketed.{ticketed}
-use Rattle.run_queue.specs.Counts.{once_below}
+use Rattle.thread_lists.specs.Counts.{once_below}
 use Rattle.run_queue.specs.Passes.{given_in, known_threads, AreAllBack}
 use Rattle.run_queue.proofs.Moves.{rest_when_empty}
 use Rattle.smp_runner.proofs.Gathering.{one_more_in, each_once}

@@ -11,7 +11,8 @@ use Rattle.world_core.specs.View.{world_of}
 use Rattle.sm_types.specs.declared.world_event.WorldEvent.TheVariants as event
 use Rattle.world_core.proofs.Bags.{owned_after, room_after, room_more, absent_there, absent_in}
 use Rattle.world_core.proofs.Lifting.{no_core, found_core, world_applies, each_set}
-use Rattle.world_core.proofs.Lists.{length-map, front_of}
+use Rattle.std.proofs.lemmas.List.{length-map}
+use Rattle.world_core.proofs.Lists.{front_of}
 use Rattle.world_core.proofs.Scenes.{found_at, guests-length, none_in}
 use Rattle.world_core.proofs.world.World.apply.Goals as goal
 
@@ -40,7 +41,7 @@ run-requires-clause-room c = λ some.
     let count = guests-length (core_state here).residents in
     let room = room_more (world_of t) n (core_guests here) _ _ t.room
     (found_core core_guests t.cores.items (world_of t) refl n here get) (omega (arith, count, some)) in
-    let done = length-map (λ w. guest_of w.context) t.done.items in
+    let done = length-map t.done.items (λ w. guest_of w.context) in
     omega (arith, room.1, done)
 
 pub invariant_of-self-in-Run : goal.invariant_of-self-in-Run
@@ -202,7 +203,7 @@ offer-requires-clause-room c = λ some.
     let count = guests-length (core_state here).residents in
     let room = room_more (world_of t) n (core_guests here) _ _ t.room
     (found_core core_guests t.cores.items (world_of t) refl n here get) (omega (arith, count, some)) in
-    let queue = length-map (λ w. guest_of w.context) t.queue.items in
+    let queue = length-map t.queue.items (λ w. guest_of w.context) in
     omega (arith, room.0, queue)
 
 pub invariant_of-self-in-Offer : goal.invariant_of-self-in-Offer

@@ -1,5 +1,5 @@
 -- How often numbers stand in lists.
-use Rattle.std.specs.Prelude.{ℕ, ◌+◌, ◌==◌, nat_lt, if◌then◌else◌, List, [], ◌∷◌}
+use Rattle.std.specs.Prelude.{◌≡◌, ℕ, ◌+◌, ◌==◌, nat_lt, if◌then◌else◌, List, [], ◌∷◌}
 
 -- the numbers of some items, added up
 abbrev pub total : {A : Type 0} → (A → ℕ) → List A → ℕ
@@ -19,3 +19,7 @@ once_below t threads = if nat_lt t threads then 1 else 0
 abbrev pub without : ℕ → List ℕ → List ℕ
 without t [] = []
 without t (x ∷ xs) = if x == t then xs else (x ∷ without t xs)
+
+-- each of so many threads is once in a list of numbers, and no other is
+abbrev pub AreOnceEach : ℕ → List ℕ → Type 0
+AreOnceEach threads numbers = (t : ℕ) → occurrences t numbers ≡ once_below t threads

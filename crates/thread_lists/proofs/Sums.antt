@@ -7,7 +7,7 @@ use mathlib.Core.Option.{some, some-injective, some-ne-none}
 use mathlib.Core.Logic.{dite}
 use native.Mathlib.Decide.{ℕ_discrete, dec_lt}
 use lib.ListN.{get_elem?}
-use Rattle.run_queue.specs.Counts.{total, occurrences, once_below, without}
+use Rattle.thread_lists.specs.Counts.{total, occurrences, once_below, without}
 
 -- ---- one item
 
@@ -76,9 +76,12 @@ module _ {A : Type 0} (f : A → ℕ) where
   total-set (z ∷ xs) zero x y at = let same : f z ≡ f x = ap f (some-injective z x at) in omega arith
   total-set (z ∷ xs) (suc i) x y at = let rest = total-set xs i x y at in omega arith
 
+  pub total-append : (xs ys : List A) → total f (xs ++ ys) ≡ total f xs + total f ys
+  total-append [] ys = omega arith
+  total-append (x ∷ xs) ys = let rest = total-append xs ys in omega arith
+
   pub total-push : (xs : List A) (y : A) → total f (xs ++ y ∷ []) ≡ total f xs + f y
-  total-push [] y = omega arith
-  total-push (x ∷ xs) y = let rest = total-push xs y in omega arith
+  total-push xs y = let parts = total-append xs (y ∷ []) in omega arith
 
   pub le-total : (xs : List A) (i : ℕ) (x : A) → get_elem? xs i ≡ some x → f x ≤ total f xs
   le-total [] i x at = absurd (some-ne-none x (sym at))
