@@ -418,6 +418,51 @@ def releasing(folder):
     yield "no file", ran(sys.executable, folder / "bench/run.py", folder / "absent"), (1, "", f"there is no {folder / 'absent'}\n")
 
 
+# ---- lines of vectors and their answers
+
+# of each object its line, written from docs/VECTORS.md
+VECTOR_LINES = (
+    ({"word": "0xab010020", "x": {"1": "0x8000000000000000"}}, "ab010020 x1=8000000000000000"),
+    ({"word": 0x1e604000}, "1e604000"),
+    ({"word": 1, "x": {"10": 2, "9": 1, "0": 0}, "nzcv": 5, "svcr": 3, "z": {"3": "0100"}, "p": {"2": "01"}, "ffr": "ff", "za": {"11": "0a", "2": "00"}, "m": "0100"},
+     "00000001 x9=0000000000000001 x10=0000000000000002 nzcv=0101 svcr=3 z3=0100 p2=01 ffr=ff za11=0a m=0100"),
+    ({"end": "next", "pc": 0x20004, "sp": 16, "tpidr": 1, "tpidr2": 2, "m": "0100ff0000"},
+     "next pc=0000000000020004 sp=0000000000000010 tpidr=0000000000000001 tpidr2=0000000000000002 m=0100ff"),
+    ({"end": "raise", "values": ["undefined", "1e604000"]}, "raise undefined 1e604000"),
+    ({"end": "call", "values": ["0"]}, "call 0"),
+    ({"end": "shared"}, "shared"),
+)
+BAD_OBJECTS = ('{"word": 4294967296}', '{"x": {}}', '{"word": 1, "x": {"31": 1}}', '{"word": 1, "nzcv": 16}', '{"word": 1, "svcr": 4}', "[]", "q")
+BAD_VECTOR_LINES = ("zz", "1e60400", "00000001  sp=0000000000000001", "00000001 x1=80", "00000001 x31=0000000000000001", "00000001 x01=0000000000000001",
+                    "00000001 nzcv=0121", "00000001 svcr=4", "00000001 m=123", "00000001 m=", "00000001 z1=0A", "00000001 sp=0000000000000001 ", "next pc=1")
+
+
+def vectoring(folder):
+    script = sys.executable, TOOLS / "vectors.py"
+
+    def given(mode, text):
+        file = folder / "given"
+        file.write_text(text)
+        with open(file) as it:
+            ended = subprocess.run([*map(str, script), mode], stdin=it, stdout=subprocess.PIPE, stderr=subprocess.PIPE, text=True)
+        return ended.returncode, ended.stdout
+
+    lines = "".join(f"{line}\n" for _, line in VECTOR_LINES)
+    yield "lines of objects", given("line", "".join(f"{json.dumps(it)}\n" for it, _ in VECTOR_LINES)), (0, lines)
+    yield "lines that were read", given("line", given("state", lines)[1]), (0, lines)
+    for text in BAD_OBJECTS:
+        yield f"the object {text}", given("line", text), (2, "")
+    for text in BAD_VECTOR_LINES:
+        yield f"the line {text!r}", given("state", text), (2, "")
+    one, other = folder / "one", folder / "other"
+    one.write_text("next pc=0000000000020004 x1=8000000000000000 nzcv=0111\nshared\ncall 0\n")
+    other.write_text("next pc=0000000000020004 x1=8000000000000000 nzcv=0101 x2=0000000000000001\nshared\ncall 5\nshared\n")
+    yield "the same answers", ran(*script, "compare", one, one)[:2], (0, "")
+    yield "other answers", ran(*script, "compare", one, other)[:2], (
+        1, "line 1: nzcv 7 5\nline 1: x2 0 1\nline 3: values 0 5\nline 4: end none shared\n")
+    yield "no mode", ran(*script, "lines")[:2], (2, "")
+
+
 def collected(part, folder):
     """The checks of a part, with its name; those that need a folder have one of their own."""
     if part in (reading, showing):
@@ -428,7 +473,7 @@ def collected(part, folder):
 
 
 def main():
-    parts = (reading, showing, comparing, refusing, paging, executing, wrapping, releasing)
+    parts = (reading, showing, comparing, refusing, paging, executing, wrapping, releasing, vectoring)
     with tempfile.TemporaryDirectory() as name, concurrent.futures.ThreadPoolExecutor() as pool:
         checks = [check for found in pool.map(lambda part: collected(part, pathlib.Path(name)), parts) for check in found]
     failed = [(what, got, wanted) for what, got, wanted in checks if not got == wanted]

@@ -5,8 +5,8 @@ ghost use Rattle.kernel_contexts.specs.Context.{config_of, thread_of};
 ghost use Rattle.core_unit.specs.CoreState.{IsAbsent};
 ghost use Rattle.core_unit.specs.View.{core_state};
 
+use crate::meeting::MeetingGate;
 use core_unit::Core;
-use edge_io::Gate;
 use elf_loader::load;
 use kernel_contexts::{Context, Whole};
 use paged_memory::Image;
@@ -16,7 +16,7 @@ use sm_types::{Config, Stop};
 use smp_runner::run_cores;
 use std::alloc::Global;
 use std::process::Abort as Stops;
-use std::sync::atomic::{AtomicU64, Ordering};
+use std::sync::atomic::Ordering;
 
 /// The header of a program file whose only load, which can be read and executed, is the code after it, at
 /// 0x400000. It ends before the sizes of the load.
@@ -54,54 +54,6 @@ fn two_of_each() -> Config {
     config.threads = 2;
     config.cores = 2;
     config
-}
-
-/// How often a first pass looks for the other core's.
-const TRIES: u32 = 100_000_000;
-
-/// Holds the first pass of each of two cores until the other core has come to its own, and counts passes.
-#[derive(Drop)]
-struct MeetingGate {
-    /// Of each core, that of its first pass: 0 before it, and then the guest thread's number plus one.
-    firsts: [AtomicU64; 2],
-    /// Of each guest thread, how many passes were for it.
-    passes: [AtomicU64; 2],
-    /// How many first passes did not see the other's.
-    missed: AtomicU64,
-}
-
-impl MeetingGate {
-    fn new() -> MeetingGate {
-        MeetingGate {
-            firsts: [AtomicU64::new(0), AtomicU64::new(0)],
-            passes: [AtomicU64::new(0), AtomicU64::new(0)],
-            missed: AtomicU64::new(0),
-        }
-    }
-
-    /// The first pass of one of the two cores.
-    fn meet(&self, core: usize, work: u32)
-        requires { core < 2 }
-    {
-        self.firsts[core].store(u64::from(work).wrapping_add(1), Ordering::SeqCst);
-        for _ in 0..TRIES {
-            if self.firsts[1 - core].load(Ordering::SeqCst) != 0 {
-                return;
-            }
-        }
-        self.missed.fetch_add(1, Ordering::SeqCst);
-    }
-}
-
-impl Gate for MeetingGate {
-    fn pass(&self, core: u32, turn: u64, work: u32) {
-        if work < 2 {
-            self.passes[work as usize].fetch_add(1, Ordering::SeqCst);
-        }
-        if turn == 0 && core < 2 {
-            self.meet(core as usize, work);
-        }
-    }
 }
 
 // A body that runs one core after the other misses a pass, one that keeps all threads on one core makes none

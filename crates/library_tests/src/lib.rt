@@ -1,6 +1,7 @@
 //! Tests of the libraries by their public calls, of what no line of data reaches: banks, and which thread owns
 //! that of a core, memory, vectors, the runs of one thread, the lines of stops, the shared words, host threads
-//! that reach them at once, guest threads on several cores, the object of a source, and lazy saving of ZA.
+//! that reach them at once, guest threads on several cores, instruction vectors by two workers at once, the
+//! object of a source, and lazy saving of ZA.
 #![tactic(auto)]
 
 #[cfg(test)]
@@ -12,7 +13,11 @@ mod cores;
 #[cfg(test)]
 mod host_threads;
 #[cfg(test)]
+mod instruction_vectors;
+#[cfg(test)]
 mod lone_runs;
+#[cfg(test)]
+mod meeting;
 #[cfg(test)]
 mod memory;
 #[cfg(test)]

@@ -1,0 +1,12 @@
+pub mod Said
+pub mod TwoPages
+pub mod Fitting
+pub mod Shares
+pub mod Mapped
+pub mod Numbered
+pub mod Outcomes
+pub mod Values
+pub mod Names
+pub mod Written
+pub mod Order
+pub mod Vectors

@@ -1,0 +1,10 @@
+use Rattle.std.proofs.Common.{◌≡◌, ◌++◌, map, drop}
+use Rattle.vector_runner.specs.Answer.{numbered_fields, bytes_field}
+use Rattle.vector_runner.specs.Field.{Za}
+use Rattle.vector_runner.specs.Told.{field_told}
+use Rattle.vector_runner.proofs.registers.push_za.Given as goal
+
+abbrev pub invariant-loop-n : goal.invariant-loop-n
+invariant-loop-n l =
+    map field_told l.fields.items ++ numbered_fields (λ n it. bytes_field (Za n) it) l.n (drop l.n (l.za.vectors))
+    ≡ map field_told l.initial.fields.items ++ numbered_fields (λ n it. bytes_field (Za n) it) 0 (l.za.vectors)

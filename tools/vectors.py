@@ -1,0 +1,141 @@
+#!/usr/bin/env python3
+"""Makes the lines of files of vectors, and reads them and their answers back (docs/VECTORS.md).
+
+    tools/vectors.py line             a line for each object of JSON on the standard input
+    tools/vectors.py state            an object for each line, of a file of vectors or of its answers
+    tools/vectors.py compare A B      the fields in which two files of answers differ
+
+An object has "word" (a number) or, of an answer, "end" ("next", or "call", "raise" or "shared" with "values"), and of the state what is not zero: "pc", "sp",
+"nzcv" (a number, N in bit 3), "tpidr", "tpidr2" and "svcr" as numbers; "x" as numbers by register; "z", "p" and "za" as hexadecimal by register; "ffr" and
+"m" as hexadecimal, the byte at the lowest address first. Numbers may be text with 0x. The status is 0, 1 where `compare` finds a difference, 2 for what
+cannot be read. How many bytes a vector, a predicate or a vector of ZA has is not looked at, since the lengths are options of the emulator.
+"""
+import json
+import re
+import sys
+
+FILES = {"x": 31, "z": 32, "p": 16, "za": 256}
+ORDER = ["x", "sp", "nzcv", "tpidr", "tpidr2", "svcr", "z", "p", "ffr", "za", "m"]
+# of each kind of value the digits in a line, and their base, where it is a number; the others are bytes
+NUMBERS = {key: ("[0-9a-f]{16}", 16) for key in ("x", "pc", "sp", "tpidr", "tpidr2")} | {"nzcv": ("[01]{4}", 2), "svcr": ("[0-3]", 10)}
+BYTES = "([0-9a-f]{2})+"
+FIELD = re.compile(r"(?:(x|za|z|p)(0|[1-9][0-9]{0,2})|(pc|sp|nzcv|tpidr2|tpidr|svcr|ffr|m))=([0-9a-f]+)")
+
+
+class Unread(ValueError):
+    """A line or an object that is not as docs/VECTORS.md says."""
+
+
+def number(value, most=(1 << 64) - 1):
+    value = int(value, 0) if isinstance(value, str) else value
+    if not 0 <= value <= most:
+        raise Unread(f"{value} is no number up to {most}")
+    return value
+
+
+def value_text(key, value):
+    """The text of a value, or nothing where it is zero."""
+    if key == "nzcv":
+        return f"{number(value, 15):04b}" if number(value) else ""
+    if key == "svcr":
+        return str(number(value, 3)) if number(value) else ""
+    if key in NUMBERS:
+        return f"{number(value):016x}" if number(value) else ""
+    digits = bytes.fromhex(value).hex()
+    return digits.rstrip("0") and digits
+
+
+def fields(state):
+    """The fields of a state that are not zero, in the order of a line."""
+    said = []
+    for key in ORDER:
+        held = state.get(key, {} if key in FILES else 0)
+        numbered = sorted((int(n), value) for n, value in held.items()) if key in FILES else [("", held)] if held else []
+        if key in FILES and any(not 0 <= n < FILES[key] for n, _ in numbered):
+            raise Unread(f"a number of {key} is not below {FILES[key]}")
+        said += [f"{key}{n}={value_text(key, value)}" for n, value in numbered if value_text(key, value)]
+    return said
+
+
+def line(state):
+    """The line of a vector, from its word and its state, or that of an answer, whose data end with their last byte that is not zero."""
+    if "end" not in state:
+        return " ".join([f"{number(state['word'], (1 << 32) - 1):08x}", *fields(state)])
+    if state["end"] != "next":
+        return " ".join([state["end"], *state.get("values", [])])
+    data = bytes.fromhex(state.get("m", "")).rstrip(bytes(1)).hex()
+    return " ".join([f"next pc={number(state.get('pc', 0)):016x}", *fields({**state, "m": data})])
+
+
+def read(text):
+    """The object of a line of vectors or of answers."""
+    first, *words = text.split(" ")
+    if first in ("call", "raise", "shared"):
+        return {"end": first, "values": words}
+    if first == "next":
+        state = {"end": "next"}
+    elif re.fullmatch("[0-9a-f]{8}", first):
+        state = {"word": int(first, 16)}
+    else:
+        raise Unread(f"{first!r} is neither a word nor what an answer begins with")
+    for word in words:
+        said = FIELD.fullmatch(word)
+        file, n, single, value = said.groups() if said else (None,) * 4
+        key = file or single
+        digits, base = NUMBERS.get(key, (BYTES, None))
+        if not said or not re.fullmatch(digits, value) or file and int(n) >= FILES[file]:
+            raise Unread(f"{word!r} is no field")
+        value = int(value, base) if base else value
+        if file:
+            state.setdefault(file, {})[n] = value
+        else:
+            state[key] = value
+    return state
+
+
+def flat(state):
+    """The fields of an object, by the names of a line."""
+    said = {}
+    for key, value in state.items():
+        said.update({f"{key}{n}": it for n, it in value.items()} if key in FILES else {key: value})
+    return said
+
+
+def differences(first, second):
+    """What two files of answers differ in: the line from 1 on, the field, and its value in either, 0 where it is absent."""
+    found = []
+    for number_of_line in range(max(len(first), len(second))):
+        sides = [flat(read(lines[number_of_line])) if number_of_line < len(lines) else {"end": "none"} for lines in (first, second)]
+        values = [(key, *(side.get(key) or 0 for side in sides)) for key in {**sides[0], **sides[1]}]
+        found += [(number_of_line + 1, key, first_value, other) for key, first_value, other in values if first_value != other]
+    return found
+
+
+def shown(value):
+    return f"{value:x}" if isinstance(value, int) else " ".join(value) if isinstance(value, list) else value
+
+
+def main(words):
+    if words == ["line"]:
+        for state in (json.loads(text) for text in sys.stdin if text.strip()):
+            print(line(state))
+    elif words == ["state"]:
+        for text in sys.stdin:
+            print(json.dumps(read(text.rstrip("\n"))))
+    elif len(words) == 3 and words[0] == "compare":
+        found = differences(*(open(name).read().splitlines() for name in words[1:]))
+        for at, key, first, second in found:
+            print(f"line {at}: {key} {shown(first)} {shown(second)}")
+        return 1 if found else 0
+    else:
+        print(__doc__.strip(), file=sys.stderr)
+        return 2
+    return 0
+
+
+if __name__ == "__main__":
+    try:
+        sys.exit(main(sys.argv[1:]))
+    except (Unread, KeyError, TypeError, ValueError) as fault:
+        print(f"vectors.py: {fault}", file=sys.stderr)
+        sys.exit(2)
