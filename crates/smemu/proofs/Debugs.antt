@@ -3,9 +3,7 @@ use Rattle.std.proofs.Common.{◌≡◌, ◌⊎◌, inl, inr, ℕ, ◌+◌, ◌<
 use Rattle.std.proofs.Common.{append-nil, arith, None, Result, Ok, Err}
 use Rattle.std.proofs.lemmas.Grind.{common_steps}
 use Rattle.std.proofs.lemmas.List.{take-append-drop, take_more}
-use Rattle.std.specs.Prelude.{slice_get}
 use Rattle.sha2.specs.Sha256.{sha256}
-use Rattle.sm_types.specs.declared.config.Config.{Config}
 use Rattle.cmd_words.specs.Command.{asking}
 use Rattle.cmd_words.specs.Options.{default_options}
 use Rattle.cmd_words.specs.Words.{NameSaid, ThreadSaid}
@@ -14,14 +12,11 @@ use Rattle.edge_io.proofs.Writing.{writes_then}
 use Rattle.edge_io.specs.Sink.{SinkView, Writes}
 use Rattle.edge_io.specs.declared.sink.PutFault.TheVariants.{Failed}
 use Rattle.elf_loader.specs.Loading.{Loads}
-use Rattle.lone_runner.specs.Parting.{EndsAt}
 use Rattle.paged_memory.specs.Image.{Program}
-use Rattle.report_reader.specs.Block.{Block}
 use Rattle.report_reader.specs.Report.{Report, report_in}
 use Rattle.report_reader.specs.Told.{block_said, report_said}
 use Rattle.report_reader.specs.declared.parts.Report as parts
 use Rattle.report_reader.specs.declared.parts.ReportBlock.{ReportBlock}
-use Rattle.script_reader.specs.Script.{script_in}
 use Rattle.script_reader.specs.declared.command.DebugCommand.{DebugCommand}
 use Rattle.sme_debugger.specs.Answers.{Answers, IsPartWritten, IsWritten}
 use Rattle.sme_debugger.specs.Recording.{Recording}

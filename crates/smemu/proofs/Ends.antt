@@ -1,7 +1,7 @@
 -- From what a command's functions say to what the command promises.
-use Rattle.std.proofs.Common.{◌≡◌, ◌⊎◌, inl, inr, ℕ, List, [], false, true, refl, sym, ◌∙◌, ap, subst, arith, Option, Some, None}
+use Rattle.std.proofs.Common.{◌≡◌, ◌⊎◌, inl, inr, ℕ, List, [], ◌∷◌, ◌++◌, false, true, refl, sym, ◌∙◌, ap, subst, arith, Option, Some, None}
 use Rattle.std.proofs.Common.{Result, Ok, Err}
-use Rattle.std.specs.Prelude.{IfSome, IsSome}
+use Rattle.std.specs.Prelude.{IfErr, IfOk, IfSome, IsSome}
 use Rattle.sm_types.specs.declared.numbers.Numbers.{Numbers}
 use Rattle.cmd_words.specs.Words as usage
 use Rattle.cmd_words.specs.Words.{Argument, Request, usage_fault, command_of}
@@ -15,13 +15,15 @@ use Rattle.edge_io.specs.declared.sink.PutFault.TheVariants.{Failed}
 use Rattle.command_lines.specs.declared.status.Status.{Status}
 use Rattle.command_lines.specs.declared.status.Status.TheVariants.{Done, Usage, Absent, ReadFault, WriteFault, OutOfMemory}
 use Rattle.smemu.specs.Answers.{IsOutcome, IsTold, IsToldBy, MayEnd, Telling, Tells, Never, outcomes_of}
-use Rattle.smemu.specs.Ends.{Change, Call, Defined, IsUsage, IsRejection, IsDone, IsDue, IsDueOf, IsRefused, MayCome, FetchesReached}
+use Rattle.smemu.specs.Ends.{Change, Call, Defined, IsUsage, IsRejection, IsComplete, IsDone, IsDue, IsDueOf, IsRefused, MayCome}
+use Rattle.smemu.specs.Ends.{FetchesReached}
 use Rattle.smemu.specs.Ends.{Stands}
-use Rattle.smemu.specs.Rejections.{Kind, rejection_of, rejection_status}
-use Rattle.smemu.specs.Requests.{Named, files_named, files_asked, reached_of, IsAskedFor, due_of_rejection, due_of_file, due_of_files}
+use Rattle.smemu.specs.Rejections.{Judge, judge_of, rejection_status}
+use Rattle.smemu.specs.Requests.{Named, files_named, reached_asked, reached_of, IsAmong, due_of_rejection, due_of_file, due_of_files}
 use Rattle.smemu.specs.Requests.{due_of_request}
+use Rattle.smemu.specs.Threads.{takes_threads}
 use Rattle.smemu.specs.Views.{answer_text, refusal_status, refusal_text, end_status, EndsRequest, EndsWith, EndsWords, OfAnswer}
-use Rattle.smemu.specs.Views.{PrintsAll, PrintsFront}
+use Rattle.smemu.specs.Views.{PrintsAll, PrintsFront, WritesStatus}
 use Rattle.smemu.specs.declared.answer.Answer.{Answer}
 use Rattle.smemu.specs.declared.answer.Answer.TheVariants as answer
 use Rattle.smemu.specs.declared.ending.Ending.TheVariants as ending
@@ -30,7 +32,27 @@ use Rattle.smemu.specs.declared.refusal.Refusal.TheVariants as refusal
 use Rattle.smemu.specs.declared.refusal.Unread.TheVariants as unread
 use Rattle.smemu.specs.declared.rejection.Rejection.{Rejection}
 use Rattle.smemu.specs.declared.rejection.Rejection.TheVariants as rejection
-use Rattle.smemu.proofs.Requests.{accepted_due, due_reached, reached_none, told_accepted}
+use Rattle.smemu.proofs.Requests.{accepted_due, due_after, due_reached, told_accepted}
+
+-- ---- results
+
+-- what is said of each value is said of a result where it has one
+pub if_ok : {A E : Type 0} (says tells : A → Type 0) (result : Result A E) → ((a : A) → says a → tells a) → IfOk result says
+    → IfOk result tells
+if_ok says tells (Ok a) gives h = gives a h
+if_ok says tells (Err e) gives h = tt
+
+pub if_err : {A E : Type 0} (says tells : E → Type 0) (result : Result A E) → ((e : E) → says e → tells e) → IfErr result says
+    → IfErr result tells
+if_err says tells (Ok a) gives h = tt
+if_err says tells (Err e) gives h = gives e h
+
+-- what is asked is one request, so that it takes threads or takes none
+pub same_takes : (asked : Option Request) (one other : Request) → asked ≡ Some one → asked ≡ Some other
+    → takes_threads other ≡ false → takes_threads one ≡ false
+same_takes asked one other e h alone =
+    let same : other ≡ one = cc in
+    subst (λ (r : Request). takes_threads r ≡ false) same alone
 
 -- ---- the words
 
@@ -84,10 +106,10 @@ usage_stands words place kind e = record { fault = record { place = place; kind 
 
 -- for what the words ask for
 pub fetches_asked : {F : Type 0} (fetched : F → List ℕ → ℕ → F → Type 0) (told : Told) (unread : Type 0) (old new : F) (status : Status)
-    (o : Option Request) (request : Request) → o ≡ Some request → FetchesReached fetched told unread (files_named request) old new status
-    → FetchesReached fetched told unread (files_asked o) old new status
+    (o : Option Request) (request : Request) → o ≡ Some request → FetchesReached fetched told unread (reached_of told request) old new status
+    → FetchesReached fetched told unread (reached_asked told o) old new status
 fetches_asked fetched told unread old new status o request e h =
-    subst (λ (names : List Named). FetchesReached fetched told unread names old new status) (sym (ap files_asked e)) h
+    subst (λ (names : List Named). FetchesReached fetched told unread names old new status) (sym (ap (reached_asked told) e)) h
 
 all_none : (told : Told) (unread : Type 0) → IfSome told (λ files. (◌≡◌ {A = List Named} [] []) ⊎ unread)
 all_none None unread = tt
@@ -99,7 +121,7 @@ pub fetches_none : {F : Type 0} (fetched : F → List ℕ → ℕ → F → Type
 fetches_none fetched told unread old new status names e same = record {
   front = [];
   rest = [];
-  part = ap (reached_of told) e ∙ reached_none told;
+  part = e;
   all = λ some. all_none told unread;
   first = λ some is. refl;
   done = λ is. refl;
@@ -111,7 +133,7 @@ pub fetches_unread : {F : Type 0} (fetched : F → List ℕ → ℕ → F → Ty
     → new ≡ old → FetchesReached fetched told unread names old new OutOfMemory
 fetches_unread fetched told unread names old new same = record {
   front = [];
-  rest = reached_of told names;
+  rest = names;
   part = refl;
   all = λ other. absurd (other refl);
   first = λ other. absurd (other refl);
@@ -169,37 +191,39 @@ pub there : (told : Told) (files : List ℕ → Option (List ℕ)) (name file : 
     → IfSome told (λ known. known name ≡ Some file) → files name ≡ Some file
 there told files name file e h = subst (λ (t : Told). IfSome t (λ known. known name ≡ Some file)) e h
 
-pub told_reached : (told : Told) (files : List ℕ → Option (List ℕ)) (names : List Named) (named : Named) → told ≡ Some files
-    → IsAskedFor told names named → IsAskedFor (Some files) names named
-told_reached told files names named e h = subst (λ (t : Told). IsAskedFor t names named) e h
+pub told_reached : (told : Told) (files : List ℕ → Option (List ℕ)) (request : Request) (named : Named) → told ≡ Some files
+    → IsAmong (reached_of told request) named → IsAmong (reached_of (Some files) request) named
+told_reached told files request named e h = subst (λ (t : Told). IsAmong (reached_of t request) named) e h
 
-missing_due : (kind : Kind) (file : Option (List ℕ)) → file ≡ None → (rest : Status) → due_of_file kind file rest ≡ Absent
-missing_due kind file e rest = rw e refl
+missing_due : (judge : Judge) (file : Option (List ℕ)) → file ≡ None → (rest : List ℕ → Status) → due_of_file judge file rest ≡ Absent
+missing_due judge file e rest = rw e refl
 
-pub rejected_due : (kind : Kind) (file : Option (List ℕ)) (whole : List ℕ) (rejection : Rejection) → file ≡ Some whole
-    → rejection_of kind whole ≡ Some rejection → (rest : Status) → due_of_file kind file rest ≡ rejection_status rejection
-rejected_due kind file whole rejection e h rest = ap (λ o. due_of_file kind o rest) e ∙ ap (λ r. due_of_rejection r rest) h
+pub rejected_due : (judge : Judge) (file : Option (List ℕ)) (whole : List ℕ) (rejection : Rejection) → file ≡ Some whole
+    → judge whole ≡ Some rejection → (rest : List ℕ → Status) → due_of_file judge file rest ≡ rejection_status rejection
+rejected_due judge file whole rejection e h rest = ap (λ o. due_of_file judge o rest) e ∙ ap (λ r. due_of_rejection r (rest whole)) h
 
 module _ (words : List (List ℕ)) (files : Change FilesView) (told : List ℕ → Option (List ℕ)) (tells : files.before.told ≡ Some told)
     (request : Request) (asked : command_of words ≡ Some request) where
-  request_due : (s : Status) → IsDueOf (Some request) (due_of_files told (files_named request)) s → IsDue told words s
+  request_due : (s : Status) → IsDueOf (Some request) (due_of_files request [] told (files_named request)) s → IsDue told words s
   request_due s h = subst (λ o. IsDueOf o (due_of_request told o) s) (sym asked) h
 
   outcome_due : (s : Status) (text : List ℕ) → (s ≡ OutOfMemory → ⊥) → IsOutcome files.before.told request s text → IsDue told words s
   outcome_due s text some h =
       request_due s (subst (λ d. IsDueOf (Some request) d s)
-      (sym (accepted_due told (files_named request) h.files
-      (told_accepted files.before.told (Some told) (files_named request) h.files tells h.accepted)))
+      (sym (accepted_due told request (files_named request) h.files
+      (told_accepted files.before.told (Some told) request (files_named request) h.files tells h.accepted)))
       (may_end request.verb s some (told_so (outcomes_of request.verb s) request.operands request.options h.files text h.ends)))
 
   -- a file that is reached is not accepted
-  rejection_is_due : (s : Status) (text : List ℕ) → IsRejection files.before.told (files_named request) s text → IsDue told words s
+  rejection_is_due : (s : Status) (text : List ℕ) → IsRejection files.before.told request s text → IsDue told words s
   rejection_is_due s text h =
       let whole = there files.before.told told h.named.name h.file tells h.is_file in
-      let at = told_reached files.before.told told (files_named request) h.named tells h.reached in
-      let due : due_of_files told (files_named request) ≡ rejection_status h.rejection =
-      due_reached told (files_named request) at.0 h.named (rejection_status h.rejection) at.1
-      (rejected_due h.named.kind (told h.named.name) h.file h.rejection whole h.rejects) in
+      let due : due_of_files request [] told (files_named request) ≡ rejection_status h.rejection =
+      ap (due_of_files request [] told) h.are
+      ∙ due_after told request [] h.names (h.named ∷ h.rest) h.before
+      (told_accepted files.before.told (Some told) request h.names h.before tells h.accepted)
+      ∙ rejected_due (judge_of request h.before h.named.kind) (told h.named.name) h.file h.rejection whole h.rejects
+      (λ file. due_of_files request (h.before ++ file ∷ []) told h.rest) in
       subst (IsDue told words) (sym h.is_status)
       (request_due (rejection_status h.rejection)
       (subst (λ d. IsDueOf (Some request) d (rejection_status h.rejection)) (sym due) (rejection_due request h.rejection)))
@@ -211,13 +235,14 @@ module _ (words : List (List ℕ)) (files : Change FilesView) (told : List ℕ �
   stands_due OutOfMemory text h = inr tt
   stands_due Absent text h =
       let gone = subst (λ (t : Told). IfSome t (λ known. known h.named.name ≡ None)) tells h.missing in
-      let at = told_reached files.before.told told (files_named request) h.named tells h.reached in
+      let at = told_reached files.before.told told request h.named tells h.reached in
       inl (request_due Absent (subst (λ d. IsDueOf (Some request) d Absent)
-      (sym (due_reached told (files_named request) at.0 h.named Absent at.1 (missing_due h.named.kind (told h.named.name) gone))) refl))
+      (sym (due_reached request [] told (files_named request) at.0 h.named Absent at.1
+      (λ judge rest. missing_due judge (told h.named.name) gone rest))) refl))
   stands_due ReadFault text h =
       let here = subst (λ (t : Told). IfSome t (λ known. IsSome (known h.named.name))) tells h.there in
-      let at = told_reached files.before.told told (files_named request) h.named tells h.reached in
-      inr (h.named, subst (λ (ns : List Named). IsAskedFor (Some told) ns h.named) (sym (ap files_asked asked)) at, here)
+      let at = told_reached files.before.told told request h.named tells h.reached in
+      inr (h.named, subst (λ (ns : List Named). IsAmong ns h.named) (sym (ap (reached_asked (Some told)) asked)) at, here)
   stands_due Done text h = inl (outcome_due Done text (λ is. cc) h)
   stands_due s text (inl h) = inl (rejection_is_due s text h)
   stands_due s text (inr h) = inl (outcome_due s text (λ is. cc) h)
@@ -316,3 +341,29 @@ module _ (c : Call) where
     | inr wanting ↦ absurd (nothing_fails c.out.before c.out.after Failed
         (subst (λ (t : List ℕ). Writes c.out.before c.out.after (Err Failed) t) wanting.1 w))
   ]
+
+-- ---- the status of an end that is written
+
+module _ (c : Call) (end : Result Answer Refusal) (s : Status) (ends : EndsWords c.words c.files end) where
+  pub status_done : WritesStatus end c.out.before c.out.after s → IsDone c s
+  status_done (inl w) = done_of c end s w.0 ends w.1 w.2
+  status_done (inr w) = subst (IsDone c) (sym w.0) tt
+
+  pub status_refused : WritesStatus end c.out.before c.out.after s → IsRefused c s
+  status_refused (inl w) = refused_of c end s w.0 ends w.1 w.2
+  status_refused (inr w) = subst (IsRefused c) (sym w.0) (cut_of c Failed end w.1.0 w.1.1 ends w.1.2 w.1.3)
+
+  pub status_complete : WritesStatus end c.out.before c.out.after s → IsComplete c s
+  status_complete (inl w) = λ files tells. completed c.words c.files files tells end s w.0 ends w.1
+  status_complete (inr w) = λ files tells. inr (subst (MayCome files c.words) (sym w.0) tt)
+
+-- what was fetched
+pub status_fetched : {F : Type 0} (fetched : F → List ℕ → ℕ → F → Type 0) (told : Told) (unread : Type 0) (reached : List Named) (old new : F)
+    (end : Result Answer Refusal) (before after : SinkView) (s : Status) → WritesStatus end before after s
+    → FetchesReached fetched told unread reached old new (end_status end) → FetchesReached fetched told unread reached old new s
+status_fetched fetched told unread reached old new end before after s (inl w) h =
+    fetches_end fetched told unread reached old new end s w.0 w.1 h
+status_fetched fetched told unread reached old new end before after s (inr w) h =
+    subst (FetchesReached fetched told unread reached old new) (sym w.0)
+    (fetches_as fetched told unread reached old new (end_status end) WriteFault
+    (failed_status before after Failed end w.1.0 w.1.1 w.1.2 w.1.3) (λ is. cc) h)

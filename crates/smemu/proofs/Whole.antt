@@ -20,7 +20,7 @@ use Rattle.report_reader.specs.Reading.{Fault}
 use Rattle.report_reader.specs.Report.{report_in}
 use Rattle.report_reader.specs.declared.fault.ReportKind.TheVariants as part
 use Rattle.script_reader.specs.Script.{script_in}
-use Rattle.smemu.specs.Rejections.{Kind, ProgramFile, SourceFile, ReportFile, PlanFile, ScriptFile, fault_in, rejection_of}
+use Rattle.smemu.specs.Rejections.{Judge, fault_in, plan_judge, program_judge, report_judge, script_judge, source_judge}
 use Rattle.smemu.specs.declared.rejection.Rejection.{Rejection}
 use Rattle.smemu.specs.declared.rejection.Rejection.TheVariants as rejection
 
@@ -135,31 +135,36 @@ long_script : (file : List ℕ) → 67108864 < length file
 unfolding script_in
 long_script file h = rw (is_long file h) refl
 
-too_long : Kind → Rejection
-too_long ProgramFile = rejection.Program load.TooLong
-too_long SourceFile = rejection.Source asm.TooLong
-too_long ReportFile = rejection.Report 0 part.TooLong
-too_long PlanFile = rejection.Plan 0 text_kind.TooLong
-too_long ScriptFile = rejection.Plan 0 text_kind.TooLong
+-- the most bytes of a file that is accepted: a longer one is rejected for its length
+pub record IsBounded (judge : Judge) (largest : ℕ) : Type 0 where
+  pub too_long : Rejection
+  pub long : (file : List ℕ) → largest < length file → judge file ≡ Some too_long
 
--- the most bytes that a file of a kind may have
-abbrev pub largest_of : Kind → ℕ
-largest_of ProgramFile = 67108864
-largest_of SourceFile = 67108864
-largest_of ReportFile = 1073741824
-largest_of PlanFile = 67108864
-largest_of ScriptFile = 67108864
+pub program_bounded : IsBounded program_judge 67108864
+program_bounded =
+    record { too_long = rejection.Program load.TooLong; long = λ file h. ap (option_map rejection.Program) (long_refused file h) }
 
-long_rejected : (kind : Kind) (file : List ℕ) → largest_of kind < length file → rejection_of kind file ≡ Some (too_long kind)
-unfolding too_long
-long_rejected ProgramFile file h = ap (option_map rejection.Program) (long_refused file h)
-long_rejected SourceFile file h = ap (option_map rejection.Source) (long_source file h)
-long_rejected ReportFile file h =
-    ap (option_map (λ (fault : Fault). rejection.Report fault.line fault.kind)) (long_report file h)
-long_rejected PlanFile file h =
-    ap (option_map (λ (fault : plan.Fault). rejection.Plan fault.line fault.kind)) (long_plan file h)
-long_rejected ScriptFile file h =
-    ap (option_map (λ (fault : plan.Fault). rejection.Plan fault.line fault.kind)) (long_script file h)
+pub source_bounded : IsBounded source_judge 67108864
+source_bounded =
+    record { too_long = rejection.Source asm.TooLong; long = λ file h. ap (option_map rejection.Source) (long_source file h) }
+
+pub report_bounded : IsBounded report_judge 1073741824
+report_bounded = record {
+  too_long = rejection.Report 0 part.TooLong;
+  long = λ file h. ap (option_map (λ (fault : Fault). rejection.Report fault.line fault.kind)) (long_report file h);
+}
+
+pub plan_bounded : IsBounded plan_judge 67108864
+plan_bounded = record {
+  too_long = rejection.Plan 0 text_kind.TooLong;
+  long = λ file h. ap (option_map (λ (fault : plan.Fault). rejection.Plan fault.line fault.kind)) (long_plan file h);
+}
+
+pub script_bounded : IsBounded script_judge 67108864
+script_bounded = record {
+  too_long = rejection.Plan 0 text_kind.TooLong;
+  long = λ file h. ap (option_map (λ (fault : plan.Fault). rejection.Plan fault.line fault.kind)) (long_script file h);
+}
 
 -- what is read has no fault
 pub no_fault_in : {A F : Type 0} (f : F → Rejection) (read : Result A F) (value : A) → read ≡ Ok value
@@ -167,21 +172,19 @@ pub no_fault_in : {A F : Type 0} (f : F → Rejection) (read : Result A F) (valu
 no_fault_in f read value e = ap (λ r. option_map f (fault_in r)) e
 
 -- what was fetched is the file, where it is accepted
-pub opened_file : (kind : Kind) (told : Told) (n : ℕ) (name fetched : List ℕ) → largest_of kind < n → IsFront told n name fetched
-    → rejection_of kind fetched ≡ None → IsOpened told name kind fetched
-opened_file kind told n name fetched l front accepted = record {
-  is_file =
-      sound_file (rejection_of kind) (too_long kind) (largest_of kind) (long_rejected kind) told n name fetched l front accepted;
+pub opened_file : (judge : Judge) (largest : ℕ) → IsBounded judge largest → (told : Told) (n : ℕ) (name fetched : List ℕ) → largest < n
+    → IsFront told n name fetched → judge fetched ≡ None → IsOpened told name judge fetched
+opened_file judge largest b told n name fetched l front accepted = record {
+  is_file = sound_file judge b.too_long largest b.long told n name fetched l front accepted;
   accepted = accepted;
 }
 
 -- why a file is not opened, where what was fetched of it is not accepted
-pub unopened_file : (kind : Kind) (files : Change FilesView) (n : ℕ) (name fetched : List ℕ) (r : Refusal) → largest_of kind < n
-    → IsFront files.before.told n name fetched → IsRejected kind fetched r → IsUnopened files name kind r
-unopened_file kind files n name fetched (refusal.Rejected rejection) l front h =
-    let whole =
-    faulty_file (rejection_of kind) (too_long kind) (largest_of kind) (long_rejected kind) files.before.told n name fetched rejection l
-    front h in
+pub unopened_file : (judge : Judge) (largest : ℕ) → IsBounded judge largest → (files : Change FilesView) (n : ℕ)
+    (name fetched : List ℕ) (r : Refusal) → largest < n → IsFront files.before.told n name fetched → IsRejected judge fetched r
+    → IsUnopened files name judge r
+unopened_file judge largest b files n name fetched (refusal.Rejected rejection) l front h =
+    let whole = faulty_file judge b.too_long largest b.long files.before.told n name fetched rejection l front h in
     record { file = whole.file; is_file = whole.is_file; rejects = whole.faulty }
-unopened_file kind files n name fetched refusal.Memory l front h = tt
-unopened_file kind files n name fetched r l front h = absurd h
+unopened_file judge largest b files n name fetched refusal.Memory l front h = tt
+unopened_file judge largest b files n name fetched r l front h = absurd h

@@ -1,5 +1,5 @@
 -- What words ask for.
-use Rattle.std.proofs.Common.{◌≡◌, ℕ, Bool, true, false, cond, List, Option, Some, None, refl, sym, ◌∙◌, ap}
+use Rattle.std.proofs.Common.{◌≡◌, ℕ, Bool, true, false, cond, List, Option, Some, None}
 use Rattle.std.specs.Prelude.{slice_get, is_none, option_and_then, option_map}
 use Rattle.cmd_words.specs.Words.{Request, verb_of, request_for, usage_fault, command_of}
 use Rattle.cmd_words.specs.declared.verb.Verb.{Verb}

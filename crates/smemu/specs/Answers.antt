@@ -1,7 +1,7 @@
 -- What the command writes for a request: the report of a run, the text of a plan, a listing, a program's
 -- file, the block of a thread that is replayed, what a script's commands show of a thread, or a text of its
 -- own; and what else may become of it.
-use Rattle.std.specs.Prelude.{◌≡◌, ℕ, [], ◌∷◌, List, Some, None, IfSome}
+use Rattle.std.specs.Prelude.{◌≡◌, ℕ, [], ◌∷◌, ◌++◌, List, Some, None, IfSome}
 use Rattle.sha2.specs.Sha256.{sha256}
 use Rattle.sm_types.specs.declared.config.Config.{Config}
 use Rattle.sm_types.specs.declared.object.Object.{Object}
@@ -22,7 +22,7 @@ use Rattle.report_text.specs.Report.{ThreadEnd, report_text}
 use Rattle.command_lines.specs.Texts.{help_text, version_text}
 use Rattle.command_lines.specs.declared.status.Status.{Status}
 use Rattle.command_lines.specs.declared.status.Status.TheVariants.{Done, OutOfMemory, BadReport, Differs}
-use Rattle.smemu.specs.Rejections.{rejection_of}
+use Rattle.smemu.specs.Rejections.{judge_of}
 use Rattle.workload.specs.Source.{source_of}
 use Rattle.smemu.specs.Bench.{IsBench}
 use Rattle.smemu.specs.Debug.{IsDebugOf, IsDebugFrontOf}
@@ -146,15 +146,16 @@ abbrev pub outcome : Request → List (List ℕ) → Status → List ℕ → Typ
 outcome request files status text =
     IsToldBy (outcomes_of request.verb status) request.operands request.options files text
 
--- the files that are named are these, as far as they are told, and each is accepted
-abbrev pub AreAccepted : Told → List Named → List (List ℕ) → Type 0
-AreAccepted told [] [] = Unit {0}
-AreAccepted told (named ∷ names) (file ∷ files) =
-    IsFile told named.name file × (rejection_of named.kind file ≡ None) × AreAccepted told names files
-AreAccepted told names files = ⊥
+-- the files that are named are these, as far as they are told, and each is accepted, after those before it
+abbrev pub AreAccepted : Told → Request → List (List ℕ) → List Named → List (List ℕ) → Type 0
+AreAccepted told request before [] [] = Unit {0}
+AreAccepted told request before (named ∷ names) (file ∷ files) =
+    IsFile told named.name file × (judge_of request before named.kind file ≡ None)
+    × AreAccepted told request (before ++ file ∷ []) names files
+AreAccepted told request before names files = ⊥
 
 -- what became of a request whose files are accepted
 pub record IsOutcome (told : Told) (request : Request) (status : Status) (text : List ℕ) : Type 0 where
   pub files : List (List ℕ)
-  pub accepted : AreAccepted told (files_named request) files
+  pub accepted : AreAccepted told request [] (files_named request) files
   pub ends : outcome request files status text

@@ -14,9 +14,9 @@ use Rattle.command_lines.specs.Texts.{usage_line}
 use Rattle.command_lines.specs.declared.status.Status.{Status}
 use Rattle.command_lines.specs.declared.status.Status.TheVariants.{Done, Usage, Absent, ReadFault, WriteFault}
 use Rattle.command_lines.specs.declared.status.Status.TheVariants.{OutOfMemory}
-use Rattle.smemu.specs.Answers.{IsFile, IsOutcome, MayEnd}
-use Rattle.smemu.specs.Rejections.{limit_of, rejection_of, rejection_status, rejection_line}
-use Rattle.smemu.specs.Requests.{Named, due_status, files_named, files_asked, reached_of, IsAskedFor}
+use Rattle.smemu.specs.Answers.{AreAccepted, IsFile, IsOutcome, MayEnd}
+use Rattle.smemu.specs.Rejections.{judge_of, limit_of, rejection_status, rejection_line}
+use Rattle.smemu.specs.Requests.{Named, due_status, files_named, reached_asked, reached_of, IsAmong}
 use Rattle.smemu.specs.declared.rejection.Rejection.{Rejection}
 
 -- something before a call and after it
@@ -52,30 +52,35 @@ abbrev pub read_fault_line : List ℕ → List ℕ
 read_fault_line name = concat (codes "read fault: " ∷ name ∷ codes "\n" ∷ [])
 
 -- a file that is reached is not there, and the count of absences rose
-pub record IsAbsence (files : Change FilesView) (names : List Named) (text : List ℕ) : Type 0 where
+pub record IsAbsence (files : Change FilesView) (request : Request) (text : List ℕ) : Type 0 where
   pub named : Named
-  pub reached : IsAskedFor files.before.told names named
+  pub reached : IsAmong (reached_of files.before.told request) named
   pub missing : IfSome files.before.told (λ told. told named.name ≡ None)
   pub rose : Rose files.before.absences files.after.absences
   pub is_text : text ≡ absent_line named.name
 
 -- a file that is reached is there, it could not be read, and the count of faults rose
-pub record IsReadFault (files : Change FilesView) (names : List Named) (text : List ℕ) : Type 0 where
+pub record IsReadFault (files : Change FilesView) (request : Request) (text : List ℕ) : Type 0 where
   pub named : Named
-  pub reached : IsAskedFor files.before.told names named
+  pub reached : IsAmong (reached_of files.before.told request) named
   pub there : IfSome files.before.told (λ told. IsSome (told named.name))
   pub rose : Rose files.before.faults files.after.faults
   pub unreliable : IsTrue files.before.reliable → ⊥
   pub is_text : text ≡ read_fault_line named.name
 
--- a file that is reached is not accepted, and the status and the text are those of the rejection
-pub record IsRejection (told : Told) (names : List Named) (status : Status) (text : List ℕ) : Type 0 where
+-- a file that a request names, before which these are, which are accepted, is not accepted, and the status and
+-- the text are those of the rejection
+pub record IsRejection (told : Told) (request : Request) (status : Status) (text : List ℕ) : Type 0 where
+  pub names : List Named
   pub named : Named
-  pub reached : IsAskedFor told names named
+  pub rest : List Named
+  pub are : files_named request ≡ names ++ named ∷ rest
+  pub before : List (List ℕ)
+  pub accepted : AreAccepted told request [] names before
   pub file : List ℕ
   pub rejection : Rejection
   pub is_file : IsFile told named.name file
-  pub rejects : rejection_of named.kind file ≡ Some rejection
+  pub rejects : judge_of request before named.kind file ≡ Some rejection
   pub is_status : status ≡ rejection_status rejection
   pub is_text : text ≡ rejection_line rejection
 
@@ -83,12 +88,12 @@ pub record IsRejection (told : Told) (names : List Named) (status : Status) (tex
 abbrev pub Stands : Request → Change FilesView → Status → List ℕ → Type 0
 Stands request files Usage text = ⊥
 Stands request files WriteFault text = ⊥
-Stands request files Absent text = IsAbsence files (files_named request) text
-Stands request files ReadFault text = IsReadFault files (files_named request) text
+Stands request files Absent text = IsAbsence files request text
+Stands request files ReadFault text = IsReadFault files request text
 Stands request files Done text = IsOutcome files.before.told request Done text
 Stands request files OutOfMemory text = IsOutcome files.before.told request OutOfMemory text
 Stands request files status text =
-    IsRejection files.before.told (files_named request) status text
+    IsRejection files.before.told request status text
     ⊎ IsOutcome files.before.told request status text
 
 -- ---- what stands for words
@@ -146,7 +151,7 @@ abbrev pub MayCome : (List ℕ → Option (List ℕ)) → List (List ℕ) → St
 MayCome files words OutOfMemory = Unit {0}
 MayCome files words WriteFault = Unit {0}
 MayCome files words ReadFault =
-    (named : Named) × IsAskedFor (Some files) (files_asked (command_of words)) named
+    (named : Named) × IsAmong (reached_asked (Some files) (command_of words)) named
     × IsSome (files named.name)
 MayCome files words other = ⊥
 
@@ -168,10 +173,10 @@ AreFetched {F} fetched (named ∷ rest) old new =
 -- perhaps not the last of them. Of files that tell nothing the first that is named was fetched, but where
 -- memory was wanting, and with Done all of them were.
 pub record FetchesReached {F : Type 0} (fetched : F → List ℕ → ℕ → F → Type 0) (told : Told) (unread : Type 0)
-    (names : List Named) (old new : F) (status : Status) : Type 0 where
+    (reached : List Named) (old new : F) (status : Status) : Type 0 where
   pub front : List Named
   pub rest : List Named
-  pub part : reached_of told names ≡ front ++ rest
+  pub part : reached ≡ front ++ rest
   pub all : (status ≡ OutOfMemory → ⊥) → IfSome told (λ files. (rest ≡ []) ⊎ unread)
   pub first : (status ≡ OutOfMemory → ⊥) → front ≡ [] → rest ≡ []
   pub done : status ≡ Done → rest ≡ []
@@ -183,7 +188,7 @@ abbrev pub Fetches :
     → Type 0
 Fetches fetched view words old new status =
     FetchesReached fetched (view old).told (Rose (view old).faults (view new).faults)
-    (files_asked (command_of (map string_bytes words))) old new status
+    (reached_asked (view old).told (command_of (map string_bytes words))) old new status
 
 -- ---- where nothing fails
 

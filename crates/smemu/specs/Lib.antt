@@ -1,5 +1,6 @@
 pub mod Rejections
 pub mod Requests
+pub mod Threads
 pub mod DifferLines
 pub mod Replay
 pub mod Debug

@@ -1,5 +1,6 @@
--- What a file is to be, why it is not accepted as that, and how that is told.
+-- What a file is to be, how it is judged, why it is not accepted as that, and how that is told.
 use Rattle.std.specs.Prelude.{ℕ, List, Option, Some, None, option_map, Result, Ok, Err}
+use Rattle.cmd_words.specs.Words.{Request}
 use Rattle.asm_core.specs.Faults.{asm_fault}
 use Rattle.elf_loader.specs.Loading.{load_fault}
 use Rattle.plan_reader.specs.Plan.{plan_in}
@@ -42,16 +43,40 @@ abbrev pub fault_in : {A F : Type 0} → Result A F → Option F
 fault_in (Ok read) = None
 fault_in (Err fault) = Some fault
 
--- why a file is not accepted
-abbrev pub rejection_of : Kind → List ℕ → Option Rejection
-rejection_of ProgramFile file = option_map rejection.Program (load_fault file)
-rejection_of SourceFile file = option_map rejection.Source (asm_fault file)
-rejection_of ReportFile file =
+-- how a file is judged: why it is not accepted
+abbrev pub Judge : Type 0
+Judge = List ℕ → Option Rejection
+
+-- as a program, which the loader accepts
+abbrev pub program_judge : Judge
+program_judge file = option_map rejection.Program (load_fault file)
+
+-- as a source, which the assembler accepts
+abbrev pub source_judge : Judge
+source_judge file = option_map rejection.Source (asm_fault file)
+
+-- as a report, by its format
+abbrev pub report_judge : Judge
+report_judge file =
     option_map (λ (fault : Fault). rejection.Report fault.line fault.kind) (fault_in (report_in file))
-rejection_of PlanFile file =
+
+-- as a plan
+abbrev pub plan_judge : Judge
+plan_judge file =
     option_map (λ (fault : plan.Fault). rejection.Plan fault.line fault.kind) (fault_in (plan_in file))
-rejection_of ScriptFile file =
+
+-- as a script
+abbrev pub script_judge : Judge
+script_judge file =
     option_map (λ (fault : plan.Fault). rejection.Plan fault.line fault.kind) (fault_in (script_in file))
+
+-- as what it is to be for a request, after these files, which are accepted
+abbrev pub judge_of : Request → List (List ℕ) → Kind → Judge
+judge_of request before ProgramFile = program_judge
+judge_of request before SourceFile = source_judge
+judge_of request before ReportFile = report_judge
+judge_of request before PlanFile = plan_judge
+judge_of request before ScriptFile = script_judge
 
 -- the status of a rejection
 abbrev pub rejection_status : Rejection → Status

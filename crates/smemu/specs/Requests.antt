@@ -1,5 +1,5 @@
 -- The files that a request names, and how far they are read.
-use Rattle.std.specs.Prelude.{◌≡◌, ℕ, List, [], ◌∷◌, Option, Some, None, is_none, slice_get}
+use Rattle.std.specs.Prelude.{◌≡◌, ℕ, List, [], ◌∷◌, ◌++◌, Option, Some, None, is_none, slice_get}
 use Rattle.std.specs.Prelude.{if◌then◌else◌}
 use Rattle.edge_io.specs.Files.{Told}
 use Rattle.cmd_words.specs.Words.{Argument, NameSaid, ThreadSaid, WorkloadSaid, Request, command_of}
@@ -9,7 +9,7 @@ use Rattle.cmd_words.specs.declared.verb.Verb.TheVariants.{Help, Version}
 use Rattle.command_lines.specs.declared.status.Status.{Status}
 use Rattle.command_lines.specs.declared.status.Status.TheVariants.{Done, Usage, Absent}
 use Rattle.smemu.specs.Rejections.{Kind, ProgramFile, SourceFile, ReportFile, PlanFile, ScriptFile}
-use Rattle.smemu.specs.Rejections.{rejection_of, rejection_status}
+use Rattle.smemu.specs.Rejections.{Judge, judge_of, rejection_status}
 use Rattle.smemu.specs.declared.rejection.Rejection.{Rejection}
 
 -- a file that is named
@@ -43,30 +43,38 @@ named_by (NameSaid name ∷ operands) (kind ∷ kinds) =
 abbrev pub files_named : Request → List Named
 files_named request = named_by request.operands (kinds_of request.verb)
 
--- the files that words name
-abbrev pub files_asked : Option Request → List Named
-files_asked None = []
-files_asked (Some request) = files_named request
+-- ---- how far the files are read: a file is reached where each before it is there and accepted. Each is
+-- judged with what was asked and the files before it
 
--- ---- how far the files are read: a file is reached where each before it is there and accepted
+-- those after a file that is judged so, where it is there and accepted
+abbrev pub after_file : Judge → Option (List ℕ) → (List ℕ → List Named) → List Named
+after_file judge None rest = []
+after_file judge (Some file) rest = if is_none (judge file) then rest file else []
 
--- those after a file of that kind, where it is there and accepted
-abbrev pub after_file : Kind → Option (List ℕ) → List Named → List Named
-after_file kind None rest = []
-after_file kind (Some file) rest = if is_none (rejection_of kind file) then rest else []
-
--- the files that are reached, of those that are there
-abbrev pub reached_in : (List ℕ → Option (List ℕ)) → List Named → List Named
-reached_in files [] = []
-reached_in files (named ∷ rest) = named ∷ after_file named.kind (files named.name) (reached_in files rest)
+-- the files that are reached, of those that are there, after these files, which are accepted
+abbrev pub reached_in : Request → List (List ℕ) → (List ℕ → Option (List ℕ)) → List Named → List Named
+reached_in request before files [] = []
+reached_in request before files (named ∷ rest) =
+    named ∷ after_file (judge_of request before named.kind) (files named.name)
+    (λ file. reached_in request (before ++ file ∷ []) files rest)
 
 -- the files that are reached, or may be, where it is not told which are there
-abbrev pub reached_of : Told → List Named → List Named
-reached_of None names = names
-reached_of (Some files) names = reached_in files names
+abbrev pub reached_from : Told → Request → List (List ℕ) → List Named → List Named
+reached_from None request before names = names
+reached_from (Some files) request before names = reached_in request before files names
 
-abbrev pub IsAskedFor : Told → List Named → Named → Type 0
-IsAskedFor told names named = (place : ℕ) × (slice_get (reached_of told names) place ≡ Some named)
+-- those of a request
+abbrev pub reached_of : Told → Request → List Named
+reached_of told request = reached_from told request [] (files_named request)
+
+-- those of what words ask for
+abbrev pub reached_asked : Told → Option Request → List Named
+reached_asked told None = []
+reached_asked told (Some request) = reached_of told request
+
+-- a file is one of those that are reached
+abbrev pub IsAmong : List Named → Named → Type 0
+IsAmong reached named = (place : ℕ) × (slice_get reached place ≡ Some named)
 
 -- ---- the status that is due
 
@@ -74,18 +82,21 @@ abbrev pub due_of_rejection : Option Rejection → Status → Status
 due_of_rejection None rest = rest
 due_of_rejection (Some rejection) rest = rejection_status rejection
 
-abbrev pub due_of_file : Kind → Option (List ℕ) → Status → Status
-due_of_file kind None rest = Absent
-due_of_file kind (Some file) rest = due_of_rejection (rejection_of kind file) rest
+abbrev pub due_of_file : Judge → Option (List ℕ) → (List ℕ → Status) → Status
+due_of_file judge None rest = Absent
+due_of_file judge (Some file) rest = due_of_rejection (judge file) (rest file)
 
--- for files in their order: that of the first that is not there or not accepted
-abbrev pub due_of_files : (List ℕ → Option (List ℕ)) → List Named → Status
-due_of_files files [] = Done
-due_of_files files (named ∷ rest) = due_of_file named.kind (files named.name) (due_of_files files rest)
+-- for files in their order, after these, which are accepted: that of the first that is not there or not
+-- accepted
+abbrev pub due_of_files : Request → List (List ℕ) → (List ℕ → Option (List ℕ)) → List Named → Status
+due_of_files request before files [] = Done
+due_of_files request before files (named ∷ rest) =
+    due_of_file (judge_of request before named.kind) (files named.name)
+    (λ file. due_of_files request (before ++ file ∷ []) files rest)
 
 abbrev pub due_of_request : (List ℕ → Option (List ℕ)) → Option Request → Status
 due_of_request files None = Usage
-due_of_request files (Some request) = due_of_files files (files_named request)
+due_of_request files (Some request) = due_of_files request [] files (files_named request)
 
 -- the status that is due for words, where the files are those
 abbrev pub due_status : (List ℕ → Option (List ℕ)) → List (List ℕ) → Status

@@ -1,11 +1,12 @@
 -- What the answers and refusals of the code stand for, on the way from the words to the writing.
-use Rattle.std.specs.Prelude.{◌≡◌, ℕ, ◌+◌, [], List, Some, None, IfSome, IsSome, IsTrue, Result, Ok, Err}
+use Rattle.std.specs.Prelude.{◌≡◌, ◌⊎◌, ℕ, ◌+◌, [], List, Some, None, IfSome, IsSome, IsTrue, Result, Ok, Err}
 use Rattle.std.specs.Prelude.{option_map, take}
 use Rattle.std.specs.String.{string_bytes}
 use Rattle.edge_io.specs.Cause.{Rose}
 use Rattle.edge_io.specs.Files.{Told, FilesView, IsKept}
 use Rattle.edge_io.specs.Sink.{SinkView, Writes}
 use Rattle.edge_io.specs.declared.sink.PutFault.{PutFault}
+use Rattle.edge_io.specs.declared.sink.PutFault.TheVariants.{Failed}
 use Rattle.cmd_words.specs.Words.{Request}
 use Rattle.code_listing.specs.Listing.{listing_text}
 use Rattle.lone_runner.specs.Parting.{EndsAt, IsParting}
@@ -32,10 +33,10 @@ use Rattle.smemu.specs.Bench.{bench_line}
 use Rattle.smemu.specs.DifferLines.{parting_line}
 use Rattle.smemu.specs.Excerpt.{excerpt_text}
 use Rattle.smemu.specs.Ends.{Change, change, Stands, Defined, FetchesReached, absent_line, read_fault_line}
-use Rattle.smemu.specs.Rejections.{Kind, rejection_of, rejection_status, rejection_line}
+use Rattle.smemu.specs.Rejections.{Judge, rejection_status, rejection_line}
 use Rattle.smemu.specs.Debug.{AllAnswers, FrontAnswers, recorded}
 use Rattle.smemu.specs.Replay.{mismatch, IsBlockIn, IsReplayOf, IsMismatched, IsParted, DiffersSo}
-use Rattle.smemu.specs.Requests.{files_named}
+use Rattle.smemu.specs.Requests.{reached_of}
 use Rattle.smemu.specs.declared.answer.Answer.{Answer}
 use Rattle.smemu.specs.declared.answer.Answer.TheVariants as answer
 use Rattle.smemu.specs.declared.answer.Text.{Text}
@@ -147,6 +148,11 @@ WritesEnd end before after (Ok s) =
 WritesEnd end before after (Err fault) =
     (s : Status) × (text : List ℕ) × EndsWith end s text × Writes before after (Err fault) text
 
+-- an end was written to a sink, and this is the status with which the command then ends
+abbrev pub WritesStatus : Result Answer Refusal → SinkView → SinkView → Status → Type 0
+WritesStatus end before after s =
+    WritesEnd end before after (Ok s) ⊎ ((s ≡ status.WriteFault) × WritesEnd end before after (Err Failed))
+
 -- ---- files
 
 -- these are the bytes of the file of that name, or those of its front, as far as the limit
@@ -168,27 +174,27 @@ IsUnread files name refusal.Memory = Unit {0}
 IsUnread files name other = ⊥
 
 -- the file is not accepted
-abbrev pub IsRejected : Kind → List ℕ → Refusal → Type 0
-IsRejected kind file (refusal.Rejected rejection) = rejection_of kind file ≡ Some rejection
-IsRejected kind file refusal.Memory = Unit {0}
-IsRejected kind file other = ⊥
+abbrev pub IsRejected : Judge → List ℕ → Refusal → Type 0
+IsRejected judge file (refusal.Rejected rejection) = judge file ≡ Some rejection
+IsRejected judge file refusal.Memory = Unit {0}
+IsRejected judge file other = ⊥
 
 -- the file of that name is accepted
-pub record IsOpened (told : Told) (name : List ℕ) (kind : Kind) (file : List ℕ) : Type 0 where
+pub record IsOpened (told : Told) (name : List ℕ) (judge : Judge) (file : List ℕ) : Type 0 where
   pub is_file : IsFile told name file
-  pub accepted : rejection_of kind file ≡ None
+  pub accepted : judge file ≡ None
 
 -- the file of that name is not accepted
-pub record IsRefusedFile (told : Told) (name : List ℕ) (kind : Kind) (rejection : Rejection) : Type 0 where
+pub record IsRefusedFile (told : Told) (name : List ℕ) (judge : Judge) (rejection : Rejection) : Type 0 where
   pub file : List ℕ
   pub is_file : IsFile told name file
-  pub rejects : rejection_of kind file ≡ Some rejection
+  pub rejects : judge file ≡ Some rejection
 
 -- the file of that name was not fetched, or is not accepted
-abbrev pub IsUnopened : Change FilesView → List ℕ → Kind → Refusal → Type 0
-IsUnopened files name kind (refusal.Rejected rejection) =
-    IsRefusedFile files.before.told name kind rejection
-IsUnopened files name kind other = IsUnread files name other
+abbrev pub IsUnopened : Change FilesView → List ℕ → Judge → Refusal → Type 0
+IsUnopened files name judge (refusal.Rejected rejection) =
+    IsRefusedFile files.before.told name judge rejection
+IsUnopened files name judge other = IsUnread files name other
 
 -- ---- replays
 
@@ -290,4 +296,4 @@ pub record CarriesOut {F : Type 0} (fetched : F → List ℕ → ℕ → F → T
   pub ends : EndsRequest request (change view old new) end
   pub kept : IsKept (view old) (view new)
   pub fetches : FetchesReached fetched (view old).told (Rose (view old).faults (view new).faults)
-      (files_named request) old new (end_status end)
+      (reached_of (view old).told request) old new (end_status end)

@@ -1,11 +1,11 @@
 //! The run of a workload, of which one line is written.
-ghost use Rattle.std.specs.Prelude.{◌≡◌, ◌≤◌, IfOk, length};
+ghost use Rattle.std.specs.Prelude.{◌≡◌, ◌≢◌, ◌≤◌, IfOk, length};
 ghost use Rattle.edge_io.specs.Sink.{Writes};
 ghost use Rattle.report_text.specs.Ends.{ends_of};
 ghost use Rattle.smemu.specs.Bench.{all_counted, IsBenchOf};
 ghost use Rattle.smemu.specs.Views.{summary_text};
 
-use crate::run::run_threads;
+use crate::run::{run_on_cores, run_on_one};
 use edge_io::{Gate, PutFault, Sink, write_parts};
 use kernel_contexts::Context;
 use sm_types::{Config, Memory};
@@ -59,8 +59,24 @@ fn all_counted(contexts: &[Context]) -> u64
     sum
 }
 
-/// Runs the workload of a number with four threads, on so many cores. `Memory` is want of memory.
-pub fn run_workload<R: Threads + Wait + Sync, G: Gate + Sync>(
+/// Runs the workload of a number with four threads, on one core. `Memory` is want of memory.
+pub fn run_workload(alloc: Global, number: u32, config: &Config) -> Result<Summary, Memory>
+    requires number { number ≤ 20000 }
+    requires threads { config.now.threads ≡ 4 }
+    ensures { IfOk result (λ summary. IsBenchOf number config.now (summary_text summary)) }
+{
+    let image = load_source(alloc, number)?;
+    let serial = run_on_one(alloc, &image, config)?;
+    Ok(Summary {
+        number,
+        instructions: all_counted(serial.contexts.as_slice()),
+        word: serial.words.shared[0],
+    })
+}
+
+/// Runs the workload of a number with four threads, on as many cores as the options say. `Memory` is want of
+/// memory.
+pub fn run_workload_on_cores<R: Threads + Wait + Sync, G: Gate + Sync>(
     rt: &R,
     alloc: Global,
     number: u32,
@@ -69,10 +85,11 @@ pub fn run_workload<R: Threads + Wait + Sync, G: Gate + Sync>(
 ) -> Result<Summary, Memory>
     requires number { number ≤ 20000 }
     requires threads { config.now.threads ≡ 4 }
+    requires cores { config.now.cores ≢ 1 }
     ensures { IfOk result (λ summary. IsBenchOf number config.now (summary_text summary)) }
 {
     let image = load_source(alloc, number)?;
-    let run = run_threads(rt, alloc, &image, config, gate)?;
+    let run = run_on_cores(rt, alloc, &image, config, gate)?;
     Ok(Summary {
         number,
         instructions: all_counted(run.contexts.as_slice()),

@@ -1,10 +1,11 @@
 //! The command of the words.
-ghost use Rattle.std.specs.Prelude.{◌≡◌, ◌≤◌, IfOk, map};
+ghost use Rattle.std.specs.Prelude.{◌≡◌, ◌≤◌, false, IfOk, IfErr, IsOk, Some, map};
 ghost use Rattle.std.specs.String.{string_bytes};
 ghost use Rattle.a64_encode.specs.Writable.{IsWritable};
 ghost use Rattle.asm_core.specs.Assembly.{Assembles};
 ghost use Rattle.cmd_words.specs.Command.{request_of, IsInRange};
 ghost use Rattle.cmd_words.specs.Options.{default_options, with_number};
+ghost use Rattle.cmd_words.specs.Words.{Request, command_of};
 ghost use Rattle.cmd_words.specs.declared.command.Command.TheVariants as command;
 ghost use Rattle.cmd_words.specs.declared.setting.Setting.TheVariants.{Cores};
 ghost use Rattle.edge_io.specs.Files.{IsKept};
@@ -12,7 +13,8 @@ ghost use Rattle.elf_loader.specs.Loading.{Loads};
 ghost use Rattle.sm_types.specs.Options.{numbers_of};
 ghost use Rattle.smemu.specs.Answers.{IsReportOf, IsProgramOf};
 ghost use Rattle.smemu.specs.Ends.{change, call, IsDone, IsRefused, IsComplete, Fetches};
-ghost use Rattle.smemu.specs.Views.{run_text, end_status, CarriesOut, EndsWords, WritesEnd};
+ghost use Rattle.smemu.specs.Threads.{takes_threads, IsThreaded};
+ghost use Rattle.smemu.specs.Views.{run_text, end_status, CarriesOut, EndsWords, WritesEnd, WritesStatus};
 
 use crate::answer::{Answer, RunReport, Text, write_text};
 use crate::bench::run_workload;
@@ -20,8 +22,9 @@ use crate::debug::{debug_report, write_session};
 use crate::files::{open_plan, open_program, open_report, open_script, open_source};
 use crate::refusal::{Refusal, status_of, write_refusal};
 use crate::replay::replay_report;
-use crate::run::run_threads;
+use crate::run::run_on_one;
 use crate::simulate::simulate;
+use crate::threaded::{Threaded, carry_out_threaded, takes_threads};
 use cmd_words::{Command, WordsFault, read_words};
 use command_lines::Status;
 use edge_io::{Files, Gate, PutFault, Sink};
@@ -34,19 +37,17 @@ use std::alloc::Global;
 use std::sync::Wait;
 use std::thread::Threads;
 
-/// The run of the image of a file.
-fn run_image<R: Threads + Wait + Sync, G: Gate + Sync>(
-    rt: &R,
+/// The run of the image of a file, on one core.
+fn run_image(
     alloc: Global,
     file: &[u8],
     config: &Config,
     image: &Image,
-    gate: &G,
 ) -> Result<RunReport, Memory>
     requires { Loads file.now image.now }
     ensures { IfOk result (λ report. IsReportOf file.now config.now (run_text report)) }
 {
-    let run = run_threads(rt, alloc, image, config, gate)?;
+    let run = run_on_one(alloc, image, config)?;
     Ok(RunReport {
         run,
         head: Head {
@@ -66,27 +67,19 @@ fn write_object(alloc: Global, source: &[u8], object: &Object) -> Result<Vec<u8>
     Ok(file)
 }
 
-/// `run PROGRAM` with its options: the report of the run of that file, of all its threads.
-fn run_program<R: Threads + Wait + Sync, F: Files, G: Gate + Sync>(
-    rt: &R,
+/// `run PROGRAM` with its options: the report of the run of that file, of all its threads, on
+/// one core.
+fn run_program<F: Files>(
     alloc: Global,
     program: String,
     config: &Config,
     files: &mut F,
-    gate: &G,
 ) -> Result<Answer, Refusal>
     ensures { CarriesOut F.fetched F.view (request_of (command.Run program config.now)) files.old files.new
         result }
 {
     let file = open_program(alloc, program, files)?;
-    match run_image(
-        rt,
-        alloc,
-        file.bytes.as_slice(),
-        config,
-        &file.content,
-        gate,
-    ) {
+    match run_image(alloc, file.bytes.as_slice(), config, &file.content) {
         Ok(report) => Ok(Answer::Text(Text::Report(report))),
         Err(Memory) => Err(Refusal::Memory),
     }
@@ -177,10 +170,11 @@ fn debug_thread<F: Files>(
 }
 
 /// The options of a workload on so many cores: four threads, and else those of a command that gives none.
-fn bench_options(cores: u32) -> Config
+pub fn bench_options(cores: u32) -> Config
     requires { (1 ≤ cores) × (cores ≤ 64) }
     ensures given { numbers_of result ≡ record (with_number default_options Cores cores) { threads = 4 } }
     ensures threads { result.threads ≡ 4 }
+    ensures cores { result.cores ≡ cores }
 {
     let mut config = Config::defaults();
     config.threads = 4;
@@ -188,40 +182,27 @@ fn bench_options(cores: u32) -> Config
     config
 }
 
-/// `bench N` with its option: the line of that workload.
-fn bench<R: Threads + Wait + Sync, F: Files, G: Gate + Sync>(
-    rt: &R,
-    alloc: Global,
-    number: u32,
-    cores: u32,
-    files: &mut F,
-    gate: &G,
-) -> Result<Answer, Refusal>
+/// `bench N` with its option: the line of that workload, on one core.
+fn bench<F: Files>(alloc: Global, number: u32, cores: u32, files: &mut F) -> Result<Answer, Refusal>
     requires number { number ≤ 20000 }
     requires cores { (1 ≤ cores) × (cores ≤ 64) }
     ensures { CarriesOut F.fetched F.view (request_of (command.Bench number cores)) files.old files.new
         result }
 {
     let config = bench_options(cores);
-    match run_workload(rt, alloc, number, &config, gate) {
+    match run_workload(alloc, number, &config) {
         Ok(summary) => Ok(Answer::Text(Text::Summary(summary))),
         Err(Memory) => Err(Refusal::Memory),
     }
 }
 
-/// Carries out a command.
-fn carry_out<R: Threads + Wait + Sync, F: Files, G: Gate + Sync>(
-    rt: &R,
-    alloc: Global,
-    asked: Command,
-    files: &mut F,
-    gate: &G,
-) -> Result<Answer, Refusal>
+/// Carries out a command that takes no threads.
+fn carry_out<F: Files>(alloc: Global, asked: Command, files: &mut F) -> Result<Answer, Refusal>
     requires { IsInRange asked }
     ensures { CarriesOut F.fetched F.view (request_of asked) files.old files.new result }
 {
     match asked {
-        Command::Run { program, config } => run_program(rt, alloc, program, &config, files, gate),
+        Command::Run { program, config } => run_program(alloc, program, &config, files),
         Command::Sim {
             program,
             plan,
@@ -241,28 +222,50 @@ fn carry_out<R: Threads + Wait + Sync, F: Files, G: Gate + Sync>(
             script,
         } => debug_thread(alloc, program, report, thread, script, files),
         Command::Gen { number } => Ok(Answer::Text(Text::Source(number))),
-        Command::Bench { number, cores } => bench(rt, alloc, number, cores, files, gate),
+        Command::Bench { number, cores } => bench(alloc, number, cores, files),
         Command::Help => Ok(Answer::Text(Text::Help)),
         Command::Version => Ok(Answer::Text(Text::Version)),
     }
 }
 
-/// All that comes before the writing.
-fn answer_words<R: Threads + Wait + Sync, F: Files, G: Gate + Sync>(
-    rt: &R,
+/// Carries out a command, where it takes no threads.
+fn answer_asked<F: Files>(
+    alloc: Global,
+    asked: Command,
+    files: &mut F,
+) -> Result<Result<Answer, Refusal>, Threaded>
+    requires { IsInRange asked }
+    ensures carried { IfOk result (CarriesOut F.fetched F.view (request_of asked) files.old files.new) }
+    ensures threaded { IfErr result (λ it. (request_of it.asked ≡ request_of asked) × IsThreaded it.asked
+        × (files.new ≡ files.old)) }
+    ensures kept { IsKept (F.view files.old) (F.view files.new) }
+    ensures alone { takes_threads (request_of asked) ≡ false → IsOk result }
+{
+    if takes_threads(&asked) {
+        return Err(Threaded { asked });
+    }
+    Ok(carry_out(alloc, asked, files))
+}
+
+/// All that comes before the writing, where the words ask for no threads.
+fn answer_words<F: Files>(
     alloc: Global,
     words: &[String],
     files: &mut F,
-    gate: &G,
-) -> Result<Answer, Refusal>
-    ensures ends { EndsWords (map string_bytes words.now) (change F.view files.old files.new) result }
+) -> Result<Result<Answer, Refusal>, Threaded>
+    ensures ends { IfOk result (EndsWords (map string_bytes words.now) (change F.view files.old files.new)) }
     ensures kept { IsKept (F.view files.old) (F.view files.new) }
-    ensures fetched { Fetches F.fetched F.view words.now files.old files.new (end_status result) }
+    ensures fetched { IfOk result (λ end.
+        Fetches F.fetched F.view words.now files.old files.new (end_status end)) }
+    ensures threaded { IfErr result (λ it. (command_of (map string_bytes words.now)
+        ≡ Some (request_of it.asked)) × IsThreaded it.asked × (files.new ≡ files.old)) }
+    ensures alone { (request : Request) → command_of (map string_bytes words.now) ≡ Some request
+        → takes_threads request ≡ false → IsOk result }
 {
     match read_words(alloc, words) {
-        Ok(asked) => carry_out(rt, alloc, asked, files, gate),
-        Err(WordsFault::Usage { place, kind }) => Err(Refusal::Usage { place, kind }),
-        Err(WordsFault::Memory) => Err(Refusal::Memory),
+        Ok(asked) => answer_asked(alloc, asked, files),
+        Err(WordsFault::Usage { place, kind }) => Ok(Err(Refusal::Usage { place, kind })),
+        Err(WordsFault::Memory) => Ok(Err(Refusal::Memory)),
     }
 }
 
@@ -281,6 +284,44 @@ fn write_end<K: Sink>(out: &mut K, end: Result<Answer, Refusal>) -> Result<Statu
             Ok(status_of(&refusal))
         }
     }
+}
+
+/// Writes the text of a command's end, as far as the output takes it: the status with which it ends.
+fn finish<K: Sink>(out: &mut K, end: Result<Answer, Refusal>) -> Status
+    ensures { WritesStatus end (K.view out.old) (K.view out.new) result }
+{
+    match write_end(out, end) {
+        Ok(written) => written,
+        Err(_) => Status::WriteFault,
+    }
+}
+
+/// Carries out the command of the words as `smemu_main` does, where it takes no threads of the system: each
+/// but `run` and `bench` on several cores. It does not wait, so that it ends. `Err` is what the words ask for
+/// that does take threads; no file is fetched then, and nothing is written.
+pub fn smemu_alone<F: Files, K: Sink>(
+    alloc: Global,
+    words: &[String],
+    files: &mut F,
+    out: &mut K,
+) -> Result<Status, Threaded>
+    ensures done { IfOk result
+        (IsDone (call F.view K.view words.now files.old files.new out.old out.new)) }
+    ensures refused { IfOk result
+        (IsRefused (call F.view K.view words.now files.old files.new out.old out.new)) }
+    ensures complete { IfOk result
+        (IsComplete (call F.view K.view words.now files.old files.new out.old out.new)) }
+    ensures kept { IsKept (F.view files.old) (F.view files.new) }
+    ensures fetched { IfOk result (Fetches F.fetched F.view words.now files.old files.new) }
+    ensures threaded { IfErr result (λ it. command_of (map string_bytes words.now)
+        ≡ Some (request_of it.asked)) }
+    ensures sound { IfErr result (λ it. IsThreaded it.asked) }
+    ensures untouched { IfErr result (λ it. (files.new ≡ files.old) × (out.new ≡ out.old)) }
+    ensures alone { (request : Request) → command_of (map string_bytes words.now) ≡ Some request
+        → takes_threads request ≡ false → IsOk result }
+{
+    let ended = answer_words(alloc, words, files)?;
+    Ok(finish(out, ended))
 }
 
 /// Carries out the command of the words, which are the command line without the program's name, and writes
@@ -315,9 +356,11 @@ pub fn smemu_main<R: Threads + Wait + Sync, F: Files, K: Sink, G: Gate + Sync>(
     ensures kept { IsKept (F.view files.old) (F.view files.new) }
     ensures fetched { Fetches F.fetched F.view words.now files.old files.new result }
 {
-    let end = answer_words(rt, alloc, words, files, gate);
-    match write_end(out, end) {
+    match smemu_alone(alloc, words, files, out) {
         Ok(status) => status,
-        Err(_) => Status::WriteFault,
+        Err(threaded) => {
+            let end = carry_out_threaded(rt, alloc, threaded, files, gate);
+            finish(out, end)
+        }
     }
 }

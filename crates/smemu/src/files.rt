@@ -11,7 +11,8 @@ ghost use Rattle.report_reader.specs.Told.{report_said, StandsIn};
 ghost use Rattle.script_reader.specs.Script.{script_in};
 ghost use Rattle.smemu.specs.Ends.{change};
 ghost use Rattle.smemu.specs.Rejections.{ProgramFile, SourceFile, ReportFile, PlanFile, ScriptFile};
-ghost use Rattle.smemu.specs.Rejections.{limit_of};
+ghost use Rattle.smemu.specs.Rejections.{limit_of, program_judge, source_judge, report_judge};
+ghost use Rattle.smemu.specs.Rejections.{plan_judge, script_judge};
 ghost use Rattle.smemu.specs.Views.{IsFront, IsUnread, IsRejected, IsOpened, IsUnopened};
 
 use crate::refusal::{Refusal, Unread};
@@ -71,7 +72,7 @@ fn fetch_file<F: Files>(
 /// The image of a program file.
 fn load_file(alloc: Global, file: &[u8]) -> Result<Image, Refusal>
     ensures loads { IfOk result (λ image. Loads file.now image) }
-    ensures rejected { IfErr result (IsRejected ProgramFile file.now) }
+    ensures rejected { IfErr result (IsRejected program_judge file.now) }
 {
     match load(alloc, file) {
         Ok(image) => Ok(image),
@@ -84,7 +85,7 @@ fn load_file(alloc: Global, file: &[u8]) -> Result<Image, Refusal>
 fn assemble_file(alloc: Global, source: &[u8]) -> Result<Object, Refusal>
     ensures assembles { IfOk result (λ object. Assembles source.now object) }
     ensures sound { IfOk result IsWritable }
-    ensures rejected { IfErr result (IsRejected SourceFile source.now) }
+    ensures rejected { IfErr result (IsRejected source_judge source.now) }
 {
     match assemble(alloc, source) {
         Ok(object) => Ok(object),
@@ -98,7 +99,7 @@ fn read_file(alloc: Global, bytes: &[u8]) -> Result<Report, Refusal>
     ensures reads { IfOk result (λ report. report_in bytes.now ≡ Ok (report_said report)) }
     ensures cores { IfOk result (λ report. report.config.cores ≡ 1) }
     ensures places { IfOk result (λ report. All (StandsIn bytes.now) report.blocks.items) }
-    ensures rejected { IfErr result (IsRejected ReportFile bytes.now) }
+    ensures rejected { IfErr result (IsRejected report_judge bytes.now) }
 {
     match read_report(alloc, bytes) {
         Ok(report) => Ok(report),
@@ -112,7 +113,7 @@ fn read_file(alloc: Global, bytes: &[u8]) -> Result<Report, Refusal>
 /// The events of a plan.
 fn plan_file(alloc: Global, bytes: &[u8]) -> Result<Vec<WorldEvent>, Refusal>
     ensures planned { IfOk result (λ events. plan_in bytes.now ≡ Ok events.items) }
-    ensures rejected { IfErr result (IsRejected PlanFile bytes.now) }
+    ensures rejected { IfErr result (IsRejected plan_judge bytes.now) }
 {
     match read_plan(alloc, bytes) {
         Ok(events) => Ok(events),
@@ -126,7 +127,7 @@ fn plan_file(alloc: Global, bytes: &[u8]) -> Result<Vec<WorldEvent>, Refusal>
 /// The commands of a script.
 fn script_file(alloc: Global, bytes: &[u8]) -> Result<Vec<DebugCommand>, Refusal>
     ensures said { IfOk result (λ commands. script_in bytes.now ≡ Ok commands.items) }
-    ensures rejected { IfErr result (IsRejected ScriptFile bytes.now) }
+    ensures rejected { IfErr result (IsRejected script_judge bytes.now) }
 {
     match read_script(alloc, bytes) {
         Ok(commands) => Ok(commands),
@@ -144,10 +145,10 @@ pub fn open_program<F: Files>(
     files: &mut F,
 ) -> Result<Opened<Image>, Refusal>
     ensures opened { IfOk result (λ it.
-        IsOpened (F.view files.old).told (string_bytes name) ProgramFile it.bytes.items) }
+        IsOpened (F.view files.old).told (string_bytes name) program_judge it.bytes.items) }
     ensures loads { IfOk result (λ it. Loads it.bytes.items it.content) }
     ensures unopened { IfErr result
-        (IsUnopened (change F.view files.old files.new) (string_bytes name) ProgramFile) }
+        (IsUnopened (change F.view files.old files.new) (string_bytes name) program_judge) }
     ensures kept { IsKept (F.view files.old) (F.view files.new) }
     ensures fetched { F.fetched files.old (string_bytes name) (limit_of ProgramFile) files.new }
 {
@@ -163,11 +164,11 @@ pub fn open_source<F: Files>(
     files: &mut F,
 ) -> Result<Opened<Object>, Refusal>
     ensures opened { IfOk result (λ it.
-        IsOpened (F.view files.old).told (string_bytes name) SourceFile it.bytes.items) }
+        IsOpened (F.view files.old).told (string_bytes name) source_judge it.bytes.items) }
     ensures assembles { IfOk result (λ it. Assembles it.bytes.items it.content) }
     ensures sound { IfOk result (λ it. IsWritable it.content) }
     ensures unopened { IfErr result
-        (IsUnopened (change F.view files.old files.new) (string_bytes name) SourceFile) }
+        (IsUnopened (change F.view files.old files.new) (string_bytes name) source_judge) }
     ensures kept { IsKept (F.view files.old) (F.view files.new) }
     ensures fetched { F.fetched files.old (string_bytes name) (limit_of SourceFile) files.new }
 {
@@ -183,12 +184,12 @@ pub fn open_report<F: Files>(
     files: &mut F,
 ) -> Result<Opened<Report>, Refusal>
     ensures opened { IfOk result (λ it.
-        IsOpened (F.view files.old).told (string_bytes name) ReportFile it.bytes.items) }
+        IsOpened (F.view files.old).told (string_bytes name) report_judge it.bytes.items) }
     ensures reads { IfOk result (λ it. report_in it.bytes.items ≡ Ok (report_said it.content)) }
     ensures cores { IfOk result (λ it. it.content.config.cores ≡ 1) }
     ensures places { IfOk result (λ it. All (StandsIn it.bytes.items) it.content.blocks.items) }
     ensures unopened { IfErr result
-        (IsUnopened (change F.view files.old files.new) (string_bytes name) ReportFile) }
+        (IsUnopened (change F.view files.old files.new) (string_bytes name) report_judge) }
     ensures kept { IsKept (F.view files.old) (F.view files.new) }
     ensures fetched { F.fetched files.old (string_bytes name) (limit_of ReportFile) files.new }
 {
@@ -204,10 +205,10 @@ pub fn open_plan<F: Files>(
     files: &mut F,
 ) -> Result<Opened<Vec<WorldEvent>>, Refusal>
     ensures opened { IfOk result (λ it.
-        IsOpened (F.view files.old).told (string_bytes name) PlanFile it.bytes.items) }
+        IsOpened (F.view files.old).told (string_bytes name) plan_judge it.bytes.items) }
     ensures planned { IfOk result (λ it. plan_in it.bytes.items ≡ Ok it.content.items) }
     ensures unopened { IfErr result
-        (IsUnopened (change F.view files.old files.new) (string_bytes name) PlanFile) }
+        (IsUnopened (change F.view files.old files.new) (string_bytes name) plan_judge) }
     ensures kept { IsKept (F.view files.old) (F.view files.new) }
     ensures fetched { F.fetched files.old (string_bytes name) (limit_of PlanFile) files.new }
 {
@@ -223,10 +224,10 @@ pub fn open_script<F: Files>(
     files: &mut F,
 ) -> Result<Opened<Vec<DebugCommand>>, Refusal>
     ensures opened { IfOk result (λ it.
-        IsOpened (F.view files.old).told (string_bytes name) ScriptFile it.bytes.items) }
+        IsOpened (F.view files.old).told (string_bytes name) script_judge it.bytes.items) }
     ensures said { IfOk result (λ it. script_in it.bytes.items ≡ Ok it.content.items) }
     ensures unopened { IfErr result
-        (IsUnopened (change F.view files.old files.new) (string_bytes name) ScriptFile) }
+        (IsUnopened (change F.view files.old files.new) (string_bytes name) script_judge) }
     ensures kept { IsKept (F.view files.old) (F.view files.new) }
     ensures fetched { F.fetched files.old (string_bytes name) (limit_of ScriptFile) files.new }
 {

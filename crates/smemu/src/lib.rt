@@ -31,7 +31,9 @@ mod rejection;
 mod replay;
 mod run;
 mod simulate;
+mod threaded;
 
-pub use command::smemu_main;
+pub use command::{smemu_alone, smemu_main};
 pub use command_lines::{Status, refuse_foreign_word};
 pub use in_memory::smemu_in_memory;
+pub use threaded::Threaded;

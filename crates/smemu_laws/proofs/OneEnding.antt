@@ -291,8 +291,8 @@ pub one_answer : (files : List ℕ → Option (List ℕ)) (words : List (List �
     → AreOneText request.verb request.options.cores Done text other
 one_answer files words request text other asked h g =
     let same =
-    same_files h.files g.files (sym (accepted_fate files (files_named request) h.files h.accepted)
-    ∙ accepted_fate files (files_named request) g.files g.accepted) in
+    same_files h.files g.files (sym (accepted_fate files request [] (files_named request) h.files h.accepted)
+    ∙ accepted_fate files request [] (files_named request) g.files g.accepted) in
     (one_outcome request.verb Done Done request.operands request.options g.files text other done_not done_not
     (subst (λ (fs : List (List ℕ)). outcome request fs Done text) same h.ends) g.ends).1
 

@@ -5,14 +5,14 @@ use Rattle.smemu.specs.Bench.{all_counted, bench_line}
 use Rattle.smemu.proofs.bench.run_workload.Goals as goal
 
 pub returns : goal.returns
-returns g c =
-    let run = c.in_ok-run.run' in
+returns c =
+    let run = c.in_ok-serial.serial in
     let counted : c.all_counted.result ≡ all_counted (ends_of run.contexts.items) = search rules in
     record {
       program = c.in_ok-image.image;
       image = c.in_ok-image.ensures;
       ends = ends_of run.contexts.items;
       words = run.words;
-      run = c.in_ok-run.ensures;
+      run = c.in_ok-serial.ensures;
       is_text = ap (λ n. bench_line c.args.number n (slice_index run.words.shared 0)) counted;
     }

@@ -1,4 +1,4 @@
-use Rattle.std.proofs.Common.{[], refl, Ok, Err}
+use Rattle.std.proofs.Common.{[], Ok, Err}
 use Rattle.cmd_words.specs.Command.{request_of}
 use Rattle.cmd_words.specs.declared.command.Command.TheVariants as command
 use Rattle.smemu.specs.declared.answer.Answer.TheVariants as answer
@@ -10,7 +10,8 @@ use Rattle.smemu.proofs.command.bench.Goals as goal
 pub returns-in-Ok : goal.returns-in-Ok
 returns-in-Ok g c =
     all_opened g.F.Files.fetched g.F.Files.view (request_of (command.Bench c.args.number c.args.cores)) [] c.args.files.now c.args.files.now
-    (none_opened g.F.Files.fetched g.F.Files.view c.args.files.now) (Ok (answer.Text (texts.Summary c.in-Ok.summary))) (record {
+    (none_opened g.F.Files.fetched g.F.Files.view
+    (request_of (command.Bench c.args.number c.args.cores)) c.args.files.now) (Ok (answer.Text (texts.Summary c.in-Ok.summary))) (record {
       config = c.bench_options-config.result;
       given = c.bench_options-config.ensures.given;
       bench = c.in-Ok.ensures;
@@ -19,4 +20,5 @@ returns-in-Ok g c =
 pub returns-in-Err : goal.returns-in-Err
 returns-in-Err g c =
     all_opened g.F.Files.fetched g.F.Files.view (request_of (command.Bench c.args.number c.args.cores)) [] c.args.files.now c.args.files.now
-    (none_opened g.F.Files.fetched g.F.Files.view c.args.files.now) (Err refusal.Memory) tt
+    (none_opened g.F.Files.fetched g.F.Files.view
+    (request_of (command.Bench c.args.number c.args.cores)) c.args.files.now) (Err refusal.Memory) tt

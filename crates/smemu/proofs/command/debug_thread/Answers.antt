@@ -24,14 +24,15 @@ returns-in_err-file g c =
     let ends : CarriesOut g.F.Files.fetched g.F.Files.view
     (request_of (command.Debug c.args.program c.args.report c.args.thread c.args.script)) c.args.files.now c.open_program.new.files
     (Err c.in_err-file.field-0.0) =
-    refused_next _ _ _ [] rest [] (named (string_bytes c.args.program)) _ _ _ refl (none_opened _ _ _)
+    refused_next _ _ _ [] rest [] (named (string_bytes c.args.program)) _ _ _ refl (none_opened _ _ _ _)
     c.open_program.ensures.fetched c.open_program.ensures.kept _ c.in_err-file.ensures.unopened in
     search rules
 
 pub returns-in_err-read : goal.returns-in_err-read
 returns-in_err-read g c =
     let program = named (string_bytes c.args.program) in
-    let one = and_opened program (none_opened g.F.Files.fetched g.F.Files.view c.args.files.now) c.open_program.ensures.fetched
+    let one = and_opened program (none_opened g.F.Files.fetched g.F.Files.view
+    (request_of (command.Debug c.args.program c.args.report c.args.thread c.args.script)) c.args.files.now) c.open_program.ensures.fetched
     c.open_program.ensures.kept c.in_ok-file.ensures.opened in
     let ends : CarriesOut g.F.Files.fetched g.F.Files.view
     (request_of (command.Debug c.args.program c.args.report c.args.thread c.args.script)) c.args.files.now c.open_report.new.files
@@ -44,7 +45,8 @@ pub returns-in_err-commands : goal.returns-in_err-commands
 returns-in_err-commands g c =
     let program = named (string_bytes c.args.program) in
     let report = reported (string_bytes c.args.report) in
-    let two = and_opened report (and_opened program (none_opened g.F.Files.fetched g.F.Files.view c.args.files.now)
+    let two = and_opened report (and_opened program (none_opened g.F.Files.fetched g.F.Files.view
+    (request_of (command.Debug c.args.program c.args.report c.args.thread c.args.script)) c.args.files.now)
     c.open_program.ensures.fetched c.open_program.ensures.kept c.in_ok-file.ensures.opened) c.open_report.ensures.fetched
     c.open_report.ensures.kept c.in_ok-read.ensures.opened in
     let ends : CarriesOut g.F.Files.fetched g.F.Files.view
@@ -56,7 +58,8 @@ returns-in_err-commands g c =
 
 pub returns : goal.returns
 returns g c =
-    let one = and_opened (named (string_bytes c.args.program)) (none_opened g.F.Files.fetched g.F.Files.view c.args.files.now)
+    let one = and_opened (named (string_bytes c.args.program)) (none_opened g.F.Files.fetched g.F.Files.view
+    (request_of (command.Debug c.args.program c.args.report c.args.thread c.args.script)) c.args.files.now)
     c.open_program.ensures.fetched c.open_program.ensures.kept c.in_ok-file.ensures.opened in
     let two = and_opened (reported (string_bytes c.args.report)) one c.open_report.ensures.fetched c.open_report.ensures.kept
     c.in_ok-read.ensures.opened in

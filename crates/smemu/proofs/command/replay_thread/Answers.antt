@@ -20,13 +20,14 @@ returns-in_err-file g c =
     let ends : CarriesOut g.F.Files.fetched g.F.Files.view (request_of (command.Replay c.args.program c.args.report c.args.thread))
     c.args.files.now c.open_program.new.files (Err c.in_err-file.field-0.0) =
     refused_next _ _ _ [] (reported (string_bytes c.args.report) ∷ []) [] (named (string_bytes c.args.program)) _ _ _ refl
-    (none_opened _ _ _) c.open_program.ensures.fetched c.open_program.ensures.kept _ c.in_err-file.ensures.unopened in
+    (none_opened _ _ _ _) c.open_program.ensures.fetched c.open_program.ensures.kept _ c.in_err-file.ensures.unopened in
     search rules
 
 pub returns-in_err-read : goal.returns-in_err-read
 returns-in_err-read g c =
     let program = named (string_bytes c.args.program) in
-    let one = and_opened program (none_opened g.F.Files.fetched g.F.Files.view c.args.files.now) c.open_program.ensures.fetched
+    let one = and_opened program (none_opened g.F.Files.fetched g.F.Files.view
+    (request_of (command.Replay c.args.program c.args.report c.args.thread)) c.args.files.now) c.open_program.ensures.fetched
     c.open_program.ensures.kept c.in_ok-file.ensures.opened in
     let ends : CarriesOut g.F.Files.fetched g.F.Files.view (request_of (command.Replay c.args.program c.args.report c.args.thread))
     c.args.files.now c.open_report.new.files (Err c.in_err-read.field-0.0) =
@@ -36,7 +37,8 @@ returns-in_err-read g c =
 
 pub returns : goal.returns
 returns g c =
-    let one = and_opened (named (string_bytes c.args.program)) (none_opened g.F.Files.fetched g.F.Files.view c.args.files.now)
+    let one = and_opened (named (string_bytes c.args.program)) (none_opened g.F.Files.fetched g.F.Files.view
+    (request_of (command.Replay c.args.program c.args.report c.args.thread)) c.args.files.now)
     c.open_program.ensures.fetched c.open_program.ensures.kept c.in_ok-file.ensures.opened in
     all_opened _ _ (request_of (command.Replay c.args.program c.args.report c.args.thread)) _ _ _
     (and_opened (reported (string_bytes c.args.report)) one c.open_report.ensures.fetched c.open_report.ensures.kept

@@ -6,7 +6,7 @@ use Rattle.smemu.proofs.command.run_image.Goals as goal
 
 pub returns : goal.returns
 unfolding run_text
-returns g c =
+returns c =
     let run = c.in_ok-run.run' in
     record {
       program = c.args.image.now;

@@ -22,13 +22,14 @@ returns-in_err-file g c =
     let ends : CarriesOut g.F.Files.fetched g.F.Files.view (request_of (command.Sim c.args.program c.args.plan c.args.config.now))
     c.args.files.now c.open_program.new.files (Err c.in_err-file.field-0.0) =
     refused_next _ _ _ [] (planned (string_bytes c.args.plan) ∷ []) [] (named (string_bytes c.args.program)) _ _ _ refl
-    (none_opened _ _ _) c.open_program.ensures.fetched c.open_program.ensures.kept _ c.in_err-file.ensures.unopened in
+    (none_opened _ _ _ _) c.open_program.ensures.fetched c.open_program.ensures.kept _ c.in_err-file.ensures.unopened in
     search rules
 
 pub returns-in_err-read : goal.returns-in_err-read
 returns-in_err-read g c =
     let program = named (string_bytes c.args.program) in
-    let one = and_opened program (none_opened g.F.Files.fetched g.F.Files.view c.args.files.now) c.open_program.ensures.fetched
+    let one = and_opened program (none_opened g.F.Files.fetched g.F.Files.view
+    (request_of (command.Sim c.args.program c.args.plan c.args.config.now)) c.args.files.now) c.open_program.ensures.fetched
     c.open_program.ensures.kept c.in_ok-file.ensures.opened in
     let ends : CarriesOut g.F.Files.fetched g.F.Files.view (request_of (command.Sim c.args.program c.args.plan c.args.config.now))
     c.args.files.now c.open_plan.new.files (Err c.in_err-read.field-0.0) =
@@ -38,7 +39,8 @@ returns-in_err-read g c =
 
 pub returns-in-Ok : goal.returns-in-Ok
 returns-in-Ok g c =
-    let one = and_opened (named (string_bytes c.args.program)) (none_opened g.F.Files.fetched g.F.Files.view c.args.files.now)
+    let one = and_opened (named (string_bytes c.args.program)) (none_opened g.F.Files.fetched g.F.Files.view
+    (request_of (command.Sim c.args.program c.args.plan c.args.config.now)) c.args.files.now)
     c.open_program.ensures.fetched c.open_program.ensures.kept c.in_ok-file.ensures.opened in
     all_opened _ _ (request_of (command.Sim c.args.program c.args.plan c.args.config.now)) _ _ _
     (and_opened (planned (string_bytes c.args.plan)) one c.open_plan.ensures.fetched c.open_plan.ensures.kept
@@ -52,7 +54,8 @@ returns-in-Ok g c =
 
 pub returns : goal.returns
 returns g c =
-    let one = and_opened (named (string_bytes c.args.program)) (none_opened g.F.Files.fetched g.F.Files.view c.args.files.now)
+    let one = and_opened (named (string_bytes c.args.program)) (none_opened g.F.Files.fetched g.F.Files.view
+    (request_of (command.Sim c.args.program c.args.plan c.args.config.now)) c.args.files.now)
     c.open_program.ensures.fetched c.open_program.ensures.kept c.in_ok-file.ensures.opened in
     all_opened _ _ (request_of (command.Sim c.args.program c.args.plan c.args.config.now)) _ _ _
     (and_opened (planned (string_bytes c.args.plan)) one c.open_plan.ensures.fetched c.open_plan.ensures.kept

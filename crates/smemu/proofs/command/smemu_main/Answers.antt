@@ -1,52 +1,89 @@
-use Rattle.std.proofs.Common.{map}
+use Rattle.std.proofs.Common.{map, subst}
 use Rattle.std.specs.String.{string_bytes}
+use Rattle.cmd_words.specs.Command.{request_of}
 use Rattle.cmd_words.specs.Words.{command_of}
 use Rattle.edge_io.specs.Cause.{Rose}
 use Rattle.smemu.specs.Ends.{call, change}
-use Rattle.smemu.specs.Requests.{files_asked}
-use Rattle.smemu.specs.Views.{end_status}
-use Rattle.command_lines.specs.declared.status.Status.TheVariants.{WriteFault}
-use Rattle.smemu.proofs.Ends.{completed, cut_of, done_of, failed_status, fetches_as, fetches_end, refused_of}
+use Rattle.smemu.specs.Requests.{reached_asked}
+use Rattle.smemu.specs.Views.{end_status, CarriesOut, EndsWords, WritesStatus}
+use Rattle.smemu.proofs.Ends.{asked_ends, fetches_asked, status_complete, status_done, status_fetched, status_refused}
 use Rattle.smemu.proofs.command.smemu_main.Goals as goal
 
-pub returns-in-Ok-clause-done : goal.returns-in-Ok-clause-done
-returns-in-Ok-clause-done g c =
-    let w = c.in-Ok.ensures in
-    done_of (call g.F.Files.view g.K.Sink.view c.args.words.now c.args.files.now c.answer_words-end.new.files c.args.out.now
-    c.write_end.new.out) c.answer_words-end.result c.in-Ok.status w.0 c.answer_words-end.ensures.ends w.1 w.2
-
-pub returns-in-Ok-clause-refused : goal.returns-in-Ok-clause-refused
-returns-in-Ok-clause-refused g c =
-    let w = c.in-Ok.ensures in
-    refused_of (call g.F.Files.view g.K.Sink.view c.args.words.now c.args.files.now c.answer_words-end.new.files c.args.out.now
-    c.write_end.new.out) c.answer_words-end.result c.in-Ok.status w.0 c.answer_words-end.ensures.ends w.1 w.2
-
-pub returns-in-Ok-clause-complete : goal.returns-in-Ok-clause-complete
-returns-in-Ok-clause-complete g c = λ files tells.
-    let w = c.in-Ok.ensures in
-    completed (map string_bytes c.args.words.now) (change g.F.Files.view c.args.files.now c.answer_words-end.new.files) files tells
-    c.answer_words-end.result c.in-Ok.status w.0 c.answer_words-end.ensures.ends w.1
-
-pub returns-in-Ok-clause-fetched : goal.returns-in-Ok-clause-fetched
-returns-in-Ok-clause-fetched g c =
-    let w = c.in-Ok.ensures in
-    fetches_end g.F.Files.fetched (g.F.Files.view c.args.files.now).told
-    (Rose (g.F.Files.view c.args.files.now).faults (g.F.Files.view c.answer_words-end.new.files).faults)
-    (files_asked (command_of (map string_bytes c.args.words.now)))
-    c.args.files.now c.answer_words-end.new.files c.answer_words-end.result c.in-Ok.status w.0 w.1 c.answer_words-end.ensures.fetched
+pub returns-in-Err-clause-done : goal.returns-in-Err-clause-done
+returns-in-Err-clause-done g c =
+    let asked = request_of c.in-Err.threaded.asked in
+    let end = c.carry_out_threaded-end.result in
+    let new = c.carry_out_threaded-end.new.files in
+    let carried : CarriesOut g.F.Files.fetched g.F.Files.view asked c.args.files.now new end =
+    subst (λ m. CarriesOut g.F.Files.fetched g.F.Files.view asked m new end) c.in-Err.ensures.untouched.0
+    c.carry_out_threaded-end.ensures in
+    let ends : EndsWords (map string_bytes c.args.words.now) (change g.F.Files.view c.args.files.now new) end =
+    asked_ends (map string_bytes c.args.words.now) (change g.F.Files.view c.args.files.now new) asked end c.in-Err.ensures.threaded
+    carried.ends in
+    let wrote : WritesStatus end (g.K.Sink.view c.args.out.now) (g.K.Sink.view c.finish.new.out) c.finish.result =
+    subst (λ o. WritesStatus end (g.K.Sink.view o) (g.K.Sink.view c.finish.new.out) c.finish.result) c.in-Err.ensures.untouched.1
+    c.finish.ensures in
+    status_done (call g.F.Files.view g.K.Sink.view c.args.words.now c.args.files.now new c.args.out.now c.finish.new.out) end
+    c.finish.result ends wrote
 
 pub returns-in-Err-clause-refused : goal.returns-in-Err-clause-refused
 returns-in-Err-clause-refused g c =
-    let w = c.in-Err.ensures in
-    cut_of (call g.F.Files.view g.K.Sink.view c.args.words.now c.args.files.now c.answer_words-end.new.files c.args.out.now
-    c.write_end.new.out) c.in-Err.field-0 c.answer_words-end.result w.0 w.1 c.answer_words-end.ensures.ends w.2 w.3
+    let asked = request_of c.in-Err.threaded.asked in
+    let end = c.carry_out_threaded-end.result in
+    let new = c.carry_out_threaded-end.new.files in
+    let carried : CarriesOut g.F.Files.fetched g.F.Files.view asked c.args.files.now new end =
+    subst (λ m. CarriesOut g.F.Files.fetched g.F.Files.view asked m new end) c.in-Err.ensures.untouched.0
+    c.carry_out_threaded-end.ensures in
+    let ends : EndsWords (map string_bytes c.args.words.now) (change g.F.Files.view c.args.files.now new) end =
+    asked_ends (map string_bytes c.args.words.now) (change g.F.Files.view c.args.files.now new) asked end c.in-Err.ensures.threaded
+    carried.ends in
+    let wrote : WritesStatus end (g.K.Sink.view c.args.out.now) (g.K.Sink.view c.finish.new.out) c.finish.result =
+    subst (λ o. WritesStatus end (g.K.Sink.view o) (g.K.Sink.view c.finish.new.out) c.finish.result) c.in-Err.ensures.untouched.1
+    c.finish.ensures in
+    status_refused (call g.F.Files.view g.K.Sink.view c.args.words.now c.args.files.now new c.args.out.now c.finish.new.out) end
+    c.finish.result ends wrote
+
+pub returns-in-Err-clause-complete : goal.returns-in-Err-clause-complete
+returns-in-Err-clause-complete g c =
+    let asked = request_of c.in-Err.threaded.asked in
+    let end = c.carry_out_threaded-end.result in
+    let new = c.carry_out_threaded-end.new.files in
+    let carried : CarriesOut g.F.Files.fetched g.F.Files.view asked c.args.files.now new end =
+    subst (λ m. CarriesOut g.F.Files.fetched g.F.Files.view asked m new end) c.in-Err.ensures.untouched.0
+    c.carry_out_threaded-end.ensures in
+    let ends : EndsWords (map string_bytes c.args.words.now) (change g.F.Files.view c.args.files.now new) end =
+    asked_ends (map string_bytes c.args.words.now) (change g.F.Files.view c.args.files.now new) asked end c.in-Err.ensures.threaded
+    carried.ends in
+    let wrote : WritesStatus end (g.K.Sink.view c.args.out.now) (g.K.Sink.view c.finish.new.out) c.finish.result =
+    subst (λ o. WritesStatus end (g.K.Sink.view o) (g.K.Sink.view c.finish.new.out) c.finish.result) c.in-Err.ensures.untouched.1
+    c.finish.ensures in
+    status_complete (call g.F.Files.view g.K.Sink.view c.args.words.now c.args.files.now new c.args.out.now c.finish.new.out) end
+    c.finish.result ends wrote
 
 pub returns-in-Err-clause-fetched : goal.returns-in-Err-clause-fetched
 returns-in-Err-clause-fetched g c =
-    let w = c.in-Err.ensures in
-    fetches_as g.F.Files.fetched (g.F.Files.view c.args.files.now).told
-    (Rose (g.F.Files.view c.args.files.now).faults (g.F.Files.view c.answer_words-end.new.files).faults)
-    (files_asked (command_of (map string_bytes c.args.words.now)))
-    c.args.files.now c.answer_words-end.new.files (end_status c.answer_words-end.result) WriteFault
-    (failed_status (g.K.Sink.view c.args.out.now) (g.K.Sink.view c.write_end.new.out) c.in-Err.field-0 c.answer_words-end.result
-    w.0 w.1 w.2 w.3) (λ is. cc) c.answer_words-end.ensures.fetched
+    let asked = request_of c.in-Err.threaded.asked in
+    let end = c.carry_out_threaded-end.result in
+    let new = c.carry_out_threaded-end.new.files in
+    let carried : CarriesOut g.F.Files.fetched g.F.Files.view asked c.args.files.now new end =
+    subst (λ m. CarriesOut g.F.Files.fetched g.F.Files.view asked m new end) c.in-Err.ensures.untouched.0
+    c.carry_out_threaded-end.ensures in
+    let wrote : WritesStatus end (g.K.Sink.view c.args.out.now) (g.K.Sink.view c.finish.new.out) c.finish.result =
+    subst (λ o. WritesStatus end (g.K.Sink.view o) (g.K.Sink.view c.finish.new.out) c.finish.result) c.in-Err.ensures.untouched.1
+    c.finish.ensures in
+    let told = (g.F.Files.view c.args.files.now).told in
+    let unread = Rose (g.F.Files.view c.args.files.now).faults (g.F.Files.view new).faults in
+    status_fetched g.F.Files.fetched told unread (reached_asked told (command_of (map string_bytes c.args.words.now))) c.args.files.now
+    new end (g.K.Sink.view c.args.out.now) (g.K.Sink.view c.finish.new.out) c.finish.result wrote
+    (fetches_asked g.F.Files.fetched told unread c.args.files.now new (end_status end) (command_of (map string_bytes c.args.words.now))
+    asked c.in-Err.ensures.threaded carried.fetches)
+
+pub returns-in-Err-clause-kept : goal.returns-in-Err-clause-kept
+returns-in-Err-clause-kept g c =
+    let asked = request_of c.in-Err.threaded.asked in
+    let end = c.carry_out_threaded-end.result in
+    let new = c.carry_out_threaded-end.new.files in
+    let carried : CarriesOut g.F.Files.fetched g.F.Files.view asked c.args.files.now new end =
+    subst (λ m. CarriesOut g.F.Files.fetched g.F.Files.view asked m new end) c.in-Err.ensures.untouched.0
+    c.carry_out_threaded-end.ensures in
+    carried.kept

@@ -1,4 +1,4 @@
-use Rattle.std.proofs.Common.{rules, refl, Ok, Err}
+use Rattle.std.proofs.Common.{rules, refl, Err}
 use Rattle.command_lines.specs.declared.status.Status.TheVariants.{Done}
 use Rattle.smemu.specs.Views.{answer_text, refusal_status, refusal_text, WritesEnd}
 use Rattle.smemu.proofs.command.write_end.Goals as goal

@@ -1,4 +1,4 @@
-use Rattle.std.proofs.Common.{rules, ◌≡◌, List, take, subst, ◌∙◌, Err, arith}
+use Rattle.std.proofs.Common.{rules, List, subst, ◌∙◌, Err}
 use Rattle.script_reader.specs.declared.command.DebugCommand.{DebugCommand}
 use Rattle.sme_debugger.specs.Session.{recording_of, place_of}
 use Rattle.smemu.specs.Debug.{AnswersEach, Leads}

@@ -1,4 +1,3 @@
-use Rattle.std.proofs.Common.{rules}
 use Rattle.smemu.proofs.Debugs.{cut_answers}
 use Rattle.smemu.proofs.debug.write_session.Goals as goal
 

@@ -1,5 +1,4 @@
-use Rattle.std.proofs.Common.{◌≡◌, List, ap, sym, ◌∙◌, subst}
-use Rattle.sm_types.specs.declared.config.Config.{Config}
+use Rattle.std.proofs.Common.{◌≡◌, ap, sym, ◌∙◌, subst}
 use Rattle.report_text.specs.Ends.{ends_of}
 use Rattle.report_text.specs.Report.{report_text}
 use Rattle.sim_text.specs.Sim.{sim_text}
@@ -8,7 +7,6 @@ use Rattle.world_core.specs.Happens.{world_after, answers_after}
 use Rattle.world_core.specs.Kept.{IsKept}
 use Rattle.world_core.specs.View.{world_of}
 use Rattle.world_core.specs.World.{World, start_world}
-use Rattle.world_core.specs.declared.event.Applied.{Applied}
 use Rattle.smemu.proofs.Worlds.{after-config, each_by, ends_are, one_history, plan_kept}
 use Rattle.smemu.proofs.simulate.simulate.Goals as goal
 
