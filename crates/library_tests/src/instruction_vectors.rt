@@ -22,6 +22,7 @@ fn two_workers_answer_at_once(rt: HostRuntime) {
     let vectors = read_vectors(alloc, LINES, vl, svl)
         .ok()
         .expect(&rt, "a file of vectors");
+    assert!(rt; vectors.len() <= 2_048);
     let gate = MeetingGate::new();
     let lines = run_vectors(&rt, alloc, vectors.as_slice(), vl, svl, 2, &gate)
         .ok()
@@ -54,6 +55,7 @@ fn the_third_line_is_at_fault(rt: HostRuntime) {
     let vectors = read_vectors(alloc, OTHERS, vl, svl)
         .ok()
         .expect(&rt, "a file of vectors");
+    assert!(rt; vectors.len() <= 2_048);
     let lines = run_vectors(&rt, alloc, vectors.as_slice(), vl, svl, 64, &OpenGate)
         .ok()
         .expect(&rt, "memory");
