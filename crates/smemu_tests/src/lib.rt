@@ -13,7 +13,7 @@ mod programs;
 #[cfg(test)]
 mod tests {
     use edge_io::{Gate, MemFiles, MemSink, OpenGate};
-    use smemu::{Status, refuse_foreign_word, smemu_main};
+    use smemu::{Status, refuse_foreign_word, smemu_alone, smemu_in_memory, smemu_main};
     use std::alloc::Global;
     use std::sync::Wait;
     use std::test::Fail;
@@ -142,13 +142,36 @@ mod tests {
         Ok(smemu_main(rt, rt.alloc(), words.as_slice(), files, out, gate))
     }
 
+    /// The status of the command of these words, over files and a sink in memory.
     pub fn status_of<R: AllocGlobal + Threads + Wait + Sync>(
         rt: &R,
         texts: &[&str],
         files: &mut MemFiles,
         out: &mut MemSink,
     ) -> Result<Status, Fail> {
-        status_with(rt, texts, files, out, &OpenGate)
+        let words = words(rt.alloc(), texts)?;
+        Ok(smemu_in_memory(rt, rt.alloc(), words.as_slice(), files, out))
+    }
+
+    /// What takes no threads is answered without any; a run on several cores is handed back, with nothing
+    /// written.
+    #[test]
+    fn a_run_on_several_cores_is_handed_back(rt: HostRuntime) -> Result<(), Fail> {
+        let cases: [(&[&str], Option<Status>); 4] = [
+            (&["run", "answer"], Some(Status::Done)),
+            (&["run", "answer", "--cores", "2"], None),
+            (&["bench", "1", "--cores", "64"], None),
+            (&["run", "absent", "--cores", "1"], Some(Status::Absent)),
+        ];
+        for (texts, wanted) in cases {
+            let words = words(rt.alloc(), texts)?;
+            let mut files = answer_file(rt.alloc())?;
+            let mut out = MemSink::new(rt.alloc(), 4_000)?;
+            let status = smemu_alone(rt.alloc(), words.as_slice(), &mut files, &mut out).ok();
+            assert_eq!(rt; status, wanted);
+            assert_eq!(rt; out.bytes().is_empty(), wanted.is_none());
+        }
+        Ok(())
     }
 
     #[test]
