@@ -27,7 +27,7 @@ use Rattle.cmd_words.specs.declared.given.Given.{Given}
 use Rattle.cmd_words.specs.declared.setting.Setting.{Setting}
 use Rattle.cmd_words.specs.declared.setting.Setting.TheVariants.{Vl, Svl, Slice, Budget, Threads, Cores}
 use Rattle.cmd_words.specs.declared.verb.Verb.{Verb}
-use Rattle.cmd_words.specs.declared.verb.Verb.TheVariants.{Bench}
+use Rattle.cmd_words.specs.declared.verb.Verb.TheVariants.{Bench, Vectors}
 use Rattle.sm_types.proofs.Places.{or_next, find-more, find-none}
 use Rattle.cmd_words.proofs.Faults.{get_past, at_option, at_value, fault_at-operand, fault_at-option, fault_at-value, usage_at, usage_none}
 
@@ -543,3 +543,17 @@ pub bench_options : (words : List (List ℕ)) (given : Given) → IsReadTo words
     → options_given (form_of Bench) words ≡ with_number default_options Cores (unwrap_or (given_of given Cores) (default_of Cores))
 unfolding options_given
 bench_options words given h = ap (with_number default_options Cores) (given_number words (form_of Bench) given h Cores)
+
+-- the options of `vectors`: the lengths and the cores alone are read
+pub vector_numbers : (words : List (List ℕ)) (given : Given) → IsReadTo words (form_of Vectors) (length words) given
+    → options_given (form_of Vectors) words ≡ numbers_given given
+unfolding options_given setting_in
+vector_numbers words given h =
+    rw (
+      given_number words (form_of Vectors) given h Vl,
+      given_number words (form_of Vectors) given h Svl,
+      given_number words (form_of Vectors) given h Cores,
+      h.untaken Slice refl,
+      h.untaken Budget refl,
+      h.untaken Threads refl,
+    ) refl

@@ -5,8 +5,8 @@ use Rattle.cmd_words.specs.declared.form.Operand.TheVariants.{Name, Thread, Work
 use Rattle.cmd_words.specs.declared.setting.Setting.{Setting}
 use Rattle.cmd_words.specs.declared.setting.Setting.TheVariants.{Vl, Svl, Slice, Budget, Threads, Cores}
 use Rattle.cmd_words.specs.declared.verb.Verb.{Verb}
-use Rattle.cmd_words.specs.declared.verb.Verb.TheVariants.{Run, Sim, Dis, Asm, Replay, Debug, Gen, Bench}
-use Rattle.cmd_words.specs.declared.verb.Verb.TheVariants.{Help, Version}
+use Rattle.cmd_words.specs.declared.verb.Verb.TheVariants.{Run, Sim, Dis, Asm, Replay, Debug, Vectors, Gen}
+use Rattle.cmd_words.specs.declared.verb.Verb.TheVariants.{Bench, Help, Version}
 
 -- what must stand after a command, in order, and the options that may follow then, each with its value as the
 -- next word
@@ -18,6 +18,10 @@ pub record Form : Type 0 where
 abbrev pub run_options : List Setting
 run_options = Vl ∷ Svl ∷ Slice ∷ Budget ∷ Threads ∷ Cores ∷ []
 
+-- those of a command that runs single instructions
+abbrev pub vector_options : List Setting
+vector_options = Vl ∷ Svl ∷ Cores ∷ []
+
 -- the form of each command
 abbrev pub form_of : Verb → Form
 form_of Run = record { operands = Name ∷ []; options = run_options }
@@ -26,6 +30,7 @@ form_of Dis = record { operands = Name ∷ []; options = [] }
 form_of Asm = record { operands = Name ∷ []; options = [] }
 form_of Replay = record { operands = Name ∷ Name ∷ Thread ∷ []; options = [] }
 form_of Debug = record { operands = Name ∷ Name ∷ Thread ∷ Name ∷ []; options = [] }
+form_of Vectors = record { operands = Name ∷ []; options = vector_options }
 form_of Gen = record { operands = Workload ∷ []; options = [] }
 form_of Bench = record { operands = Workload ∷ []; options = Cores ∷ [] }
 form_of Help = record { operands = []; options = [] }

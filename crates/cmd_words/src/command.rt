@@ -38,6 +38,12 @@ pub enum Command {
         thread: u32,
         script: String,
     },
+    /// Runs the single instructions of the file of vectors of that name, for the vector lengths of the
+    /// options, by as many workers as they say cores.
+    Vectors {
+        file: String,
+        config: Config,
+    },
     /// Writes the assembler source of the workload of that number, 1 to 20,000.
     Gen {
         number: u32,

@@ -36,6 +36,9 @@ const RUN_OPTIONS: &[Setting] = &[
     Setting::Cores,
 ];
 
+/// The options of a command that runs single instructions.
+const VECTOR_OPTIONS: &[Setting] = &[Setting::Vl, Setting::Svl, Setting::Cores];
+
 /// The form of a command.
 pub fn form_of(verb: Verb) -> Form
     ensures { form_said result ≡ spec.form_of verb }
@@ -60,6 +63,10 @@ pub fn form_of(verb: Verb) -> Form
         Verb::Debug => Form {
             operands: &[Operand::Name, Operand::Name, Operand::Thread, Operand::Name],
             options: &[],
+        },
+        Verb::Vectors => Form {
+            operands: &[Operand::Name],
+            options: VECTOR_OPTIONS,
         },
         Verb::Gen => Form {
             operands: &[Operand::Workload],

@@ -11,6 +11,7 @@ pub enum Verb {
     Asm,
     Replay,
     Debug,
+    Vectors,
     Gen,
     Bench,
     Help,
@@ -34,6 +35,8 @@ pub fn verb_of(word: &str) -> Option<Verb>
         Some(Verb::Replay)
     } else if word == "debug" {
         Some(Verb::Debug)
+    } else if word == "vectors" {
+        Some(Verb::Vectors)
     } else if word == "gen" {
         Some(Verb::Gen)
     } else if word == "bench" {

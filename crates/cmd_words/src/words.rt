@@ -263,6 +263,10 @@ fn make_command(
             thread: thread_at(words, 3),
             script: name_at(alloc, words, 4)?,
         }),
+        Verb::Vectors => Ok(Command::Vectors {
+            file: name_at(alloc, words, 1)?,
+            config: given.config(),
+        }),
         Verb::Gen => Ok(Command::Gen {
             number: workload_at(words, 1),
         }),

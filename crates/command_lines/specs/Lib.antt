@@ -4,4 +4,5 @@ pub mod FaultLines
 pub mod SourceLines
 pub mod ReportLines
 pub mod PlanLines
+pub mod VectorsLines
 pub mod Foreign

@@ -19,12 +19,14 @@ commands:
                 runs thread THREAD of the report REPORT of PROGRAM alone and writes its block
   debug PROGRAM REPORT THREAD SCRIPT
                 runs that thread alone, and writes what the commands of SCRIPT show of it
+  vectors FILE  runs the single instructions of FILE, each on the state of its line
   gen N         writes the assembler source of workload N: 1 to 20000
   bench N       runs workload N with four guest threads and writes what they counted
   --help        writes this text
   --version     writes the version
 
-options of run and sim, of which bench takes --cores, in any order, each at most once:
+options of run and sim, of which vectors takes --vl, --svl and --cores, and bench --cores,
+in any order, each at most once:
   --vl BITS     vector length outside streaming mode: 128, 256, 512, 1024 or 2048; else 128
   --svl BITS    vector length in streaming mode: 128, 256, 512, 1024 or 2048; else 256
   --slice N     instructions between polls of the pending signals: 1 to 1000000; else 1000
@@ -44,6 +46,7 @@ statuses:
   9   bad report: line L: KIND, where the file is no report of PROGRAM with that thread
   10   differs: where the thread and its report part: a line of both, or KIND VALUES
   11   bad plan: line L: KIND, where the file is no plan, or no script
+  14   bad vectors: toolong, or line L, where the file is no file of vectors
 
 what the usual refusals of a program file mean:
   notstatic 1   an object file: link it

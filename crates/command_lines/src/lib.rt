@@ -1,7 +1,7 @@
 //! The lines and the texts of the command: the line of the fault for which words, a program's file, a source,
-//! a report or a plan is refused, the lines that say in which line a report and a replay differ, the texts
-//! of help and of the version, and the status with its number. `refuse_foreign_word` answers words of which
-//! one is no text.
+//! a report, a plan or a file of vectors is refused, the lines that say in which line a report and a replay
+//! differ, the texts of help and of the version, and the status with its number. `refuse_foreign_word`
+//! answers words of which one is no text.
 #![tactic(auto)]
 
 mod difference_line;
@@ -9,11 +9,13 @@ mod fault_line;
 mod foreign;
 mod help;
 mod laws;
+mod numbered_line;
 mod plan_line;
 mod report_line;
 mod source_line;
 mod status;
 mod usage_line;
+mod vectors_line;
 
 pub use difference_line::write_difference_lines;
 pub use fault_line::write_fault;
@@ -25,3 +27,4 @@ pub use report_line::write_report_fault;
 pub use source_line::write_source_fault;
 pub use status::Status;
 pub use usage_line::write_usage;
+pub use vectors_line::{VectorsFault, write_vectors_fault};

@@ -27,6 +27,8 @@ pub enum Status {
     Differs,
     /// The file is no plan, or no script.
     BadPlan,
+    /// The file is no file of vectors.
+    BadVectors,
 }
 
 impl Status {
@@ -46,6 +48,7 @@ impl Status {
             Status::BadReport => 9,
             Status::Differs => 10,
             Status::BadPlan => 11,
+            Status::BadVectors => 14,
         }
     }
 }

@@ -1,7 +1,7 @@
 -- From what a command's functions say to what the command promises.
 use Rattle.std.proofs.Common.{◌≡◌, ◌⊎◌, inl, inr, ℕ, List, [], ◌∷◌, ◌++◌, false, true, refl, sym, ◌∙◌, ap, subst, arith, Option, Some, None}
 use Rattle.std.proofs.Common.{Result, Ok, Err}
-use Rattle.std.specs.Prelude.{IfErr, IfOk, IfSome, IsSome}
+use Rattle.std.specs.Prelude.{IfErr, IfOk, IfSome, IsSome, IsErr}
 use Rattle.sm_types.specs.declared.numbers.Numbers.{Numbers}
 use Rattle.cmd_words.specs.Words as usage
 use Rattle.cmd_words.specs.Words.{Argument, Request, usage_fault, command_of}
@@ -53,6 +53,22 @@ pub same_takes : (asked : Option Request) (one other : Request) → asked ≡ So
 same_takes asked one other e h alone =
     let same : other ≡ one = cc in
     subst (λ (r : Request). takes_threads r ≡ false) same alone
+
+-- an error says nothing of a value
+pub none_ok : {A E : Type 0} (says : A → Type 0) (result : Result A E) → IsErr result → IfOk result says
+none_ok says (Ok a) h = absurd (let f : false ≡ true = h in cc)
+none_ok says (Err e) h = tt
+
+-- what is asked is one request, so that it takes threads or takes none
+pub same_takes_some : (asked : Option Request) (one other : Request) → asked ≡ Some one → asked ≡ Some other
+    → takes_threads other ≡ true → takes_threads one ≡ true
+same_takes_some asked one other e h several =
+    let same : other ≡ one = cc in
+    subst (λ (r : Request). takes_threads r ≡ true) same several
+
+-- there is no request where none is asked for
+pub no_some : (o : Option Request) (request : Request) → o ≡ None → o ≡ Some request → ⊥
+no_some o request e h = cc
 
 -- ---- the words
 
@@ -293,6 +309,13 @@ failed_status a b e (Ok x) s text h w is = cc
 failed_status a b e (Err r) s text h w is =
     let said = subst (λ (t : List ℕ). Writes a b (Err e) t) h.1 w in
     nothing_fails a b e (subst (λ (q : Refusal). Writes a b (Err e) (refusal_text q)) (refusal_memory r is) said)
+
+-- where memory was wanting before the writing, the status says so
+pub memory_status : (before after : SinkView) (end : Result Answer Refusal) (s : Status) → end ≡ Err refusal.Memory
+    → WritesStatus end before after s → s ≡ OutOfMemory
+memory_status before after end s is (inl w) = (subst (λ e. EndsWith e s w.0) is w.1).0
+memory_status before after end s is (inr w) =
+    absurd (failed_status before after Failed end w.1.0 w.1.1 w.1.2 w.1.3 (ap end_status is))
 
 -- the same was fetched, whatever became of a session
 pub fetches_end : {F : Type 0} (fetched : F → List ℕ → ℕ → F → Type 0) (told : Told) (unread : Type 0) (names : List Named) (old new : F)

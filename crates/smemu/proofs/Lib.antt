@@ -9,3 +9,4 @@ pub mod Words
 pub mod InMemory
 pub mod Threads
 pub mod Worlds
+pub mod Vectors

@@ -20,7 +20,11 @@ use Rattle.report_reader.specs.Reading.{Fault}
 use Rattle.report_reader.specs.Report.{report_in}
 use Rattle.report_reader.specs.declared.fault.ReportKind.TheVariants as part
 use Rattle.script_reader.specs.Script.{script_in}
-use Rattle.smemu.specs.Rejections.{Judge, fault_in, plan_judge, program_judge, report_judge, script_judge, source_judge}
+use Rattle.sm_types.specs.declared.length.VecLen.{VecLen}
+use Rattle.vector_runner.specs.Grammar as grammar
+use Rattle.vector_runner.specs.Grammar.{vectors_in}
+use Rattle.smemu.specs.Rejections.{Judge, fault_in, fault_told, plan_judge, program_judge, report_judge, script_judge, source_judge}
+use Rattle.smemu.specs.Rejections.{vectors_judge}
 use Rattle.smemu.specs.declared.rejection.Rejection.{Rejection}
 use Rattle.smemu.specs.declared.rejection.Rejection.TheVariants as rejection
 
@@ -164,6 +168,16 @@ pub script_bounded : IsBounded script_judge 67108864
 script_bounded = record {
   too_long = rejection.Plan 0 text_kind.TooLong;
   long = λ file h. ap (option_map (λ (fault : plan.Fault). rejection.Plan fault.line fault.kind)) (long_script file h);
+}
+
+long_vectors : (vl svl : VecLen) (file : List ℕ) → 67108864 < length file → fault_in (vectors_in vl svl file) ≡ Some grammar.TooLong
+unfolding vectors_in
+long_vectors vl svl file h = rw (is_long file h) refl
+
+pub vectors_bounded : (vl svl : VecLen) → IsBounded (vectors_judge vl svl) 67108864
+vectors_bounded vl svl = record {
+  too_long = rejection.Vectors (fault_told grammar.TooLong);
+  long = λ file h. ap (option_map (λ (fault : grammar.Fault). rejection.Vectors (fault_told fault))) (long_vectors vl svl file h);
 }
 
 -- what is read has no fault

@@ -1,6 +1,6 @@
 -- What the command writes for a request: the report of a run, the text of a plan, a listing, a program's
--- file, the block of a thread that is replayed, what a script's commands show of a thread, or a text of its
--- own; and what else may become of it.
+-- file, the block of a thread that is replayed, what a script's commands show of a thread, the answers to
+-- vectors, or a text of its own; and what else may become of it.
 use Rattle.std.specs.Prelude.{◌≡◌, ℕ, [], ◌∷◌, ◌++◌, List, Some, None, IfSome}
 use Rattle.sha2.specs.Sha256.{sha256}
 use Rattle.sm_types.specs.declared.config.Config.{Config}
@@ -11,8 +11,8 @@ use Rattle.sm_types.specs.Options.{numbers_of}
 use Rattle.sm_types.specs.declared.numbers.Numbers.{Numbers}
 use Rattle.cmd_words.specs.Words.{Argument, ThreadSaid, WorkloadSaid, Request}
 use Rattle.cmd_words.specs.declared.verb.Verb.{Verb}
-use Rattle.cmd_words.specs.declared.verb.Verb.TheVariants.{Run, Sim, Dis, Asm, Replay, Debug, Gen, Bench}
-use Rattle.cmd_words.specs.declared.verb.Verb.TheVariants.{Help, Version}
+use Rattle.cmd_words.specs.declared.verb.Verb.TheVariants.{Run, Sim, Dis, Asm, Replay, Debug, Vectors, Gen}
+use Rattle.cmd_words.specs.declared.verb.Verb.TheVariants.{Bench, Help, Version}
 use Rattle.asm_core.specs.Assembly.{Assembles}
 use Rattle.code_listing.specs.Listing.{listing_text}
 use Rattle.paged_memory.specs.Image.{Program}
@@ -29,6 +29,7 @@ use Rattle.smemu.specs.Debug.{IsDebugOf, IsDebugFrontOf}
 use Rattle.smemu.specs.Replay.{IsReplayOf, IsParted, MismatchesSo, DiffersSo}
 use Rattle.smemu.specs.Requests.{Named, files_named}
 use Rattle.smemu.specs.Runs.{IsWholeRun}
+use Rattle.smemu.specs.Vectors.{IsAnswersOf}
 use Rattle.smemu.specs.Worlds.{IsSimulation}
 
 -- the file of that name, as far as the files are told
@@ -120,6 +121,7 @@ outcomes_of Debug OutOfMemory = Tells (of_script IsDebugFrontOf)
 outcomes_of Debug BadReport =
     Tells (of_script (λ file report thread script. MismatchesSo file report thread))
 outcomes_of Debug Differs = Tells (of_script (λ file report thread script. IsParted file report thread))
+outcomes_of Vectors Done = Tells (of_file IsAnswersOf)
 outcomes_of Gen Done = Tells (of_workload (λ number options text. text ≡ source_of number))
 outcomes_of Bench Done = Tells (of_workload IsBench)
 outcomes_of Help Done = Tells (own_text help_text)

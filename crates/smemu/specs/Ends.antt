@@ -170,7 +170,7 @@ AreFetched {F} fetched (named ∷ rest) old new =
     (now : F) × fetched old named.name (limit_of named.kind) now × AreFetched fetched rest now new
 
 -- The files that are reached were fetched; where memory was wanting, or one of them could not be read,
--- perhaps not the last of them. Of files that tell nothing the first that is named was fetched, but where
+-- perhaps only some of them, from the first on. Of files that tell nothing the first that is named was fetched, but where
 -- memory was wanting, and with Done all of them were.
 pub record FetchesReached {F : Type 0} (fetched : F → List ℕ → ℕ → F → Type 0) (told : Told) (unread : Type 0)
     (reached : List Named) (old new : F) (status : Status) : Type 0 where

@@ -9,6 +9,7 @@ pub mod Excerpt
 pub mod Worlds
 pub mod Runs
 pub mod Bench
+pub mod Vectors
 pub mod Answers
 pub mod Ends
 pub mod Views

@@ -12,8 +12,16 @@ use Rattle.command_lines.specs.FaultLines.{fault_line}
 use Rattle.command_lines.specs.PlanLines.{plan_line}
 use Rattle.command_lines.specs.ReportLines.{report_line}
 use Rattle.command_lines.specs.SourceLines.{source_line}
+use Rattle.command_lines.specs.VectorsLines.{vectors_line}
 use Rattle.command_lines.specs.declared.status.Status.{Status}
 use Rattle.command_lines.specs.declared.status.Status.TheVariants.{BadFile, BadSource, BadReport, BadPlan}
+use Rattle.command_lines.specs.declared.status.Status.TheVariants.{BadVectors}
+use Rattle.command_lines.specs.declared.vectors_line.VectorsFault.{VectorsFault}
+use Rattle.command_lines.specs.declared.vectors_line.VectorsFault.TheVariants as vectors
+use Rattle.sm_types.specs.declared.length.VecLen.{VecLen}
+use Rattle.vector_runner.specs.Grammar as grammar
+use Rattle.vector_runner.specs.Grammar.{vectors_in}
+use Rattle.smemu.specs.Vectors.{length_said}
 use Rattle.smemu.specs.declared.rejection.Rejection.{Rejection}
 use Rattle.smemu.specs.declared.rejection.Rejection.TheVariants as rejection
 
@@ -29,6 +37,8 @@ pub data Kind : Type 0 where
   PlanFile : Kind
   -- a script of the debugger, which is in its format
   ScriptFile : Kind
+  -- a file of vectors, which is in its format for the lengths of the options
+  VectorsFile : Kind
 
 -- how many bytes are fetched: one more than it may have
 abbrev pub limit_of : Kind → ℕ
@@ -37,6 +47,7 @@ limit_of SourceFile = 67108865
 limit_of ReportFile = 1073741825
 limit_of PlanFile = 67108865
 limit_of ScriptFile = 67108865
+limit_of VectorsFile = 67108865
 
 -- the fault of a reading
 abbrev pub fault_in : {A F : Type 0} → Result A F → Option F
@@ -70,6 +81,17 @@ abbrev pub script_judge : Judge
 script_judge file =
     option_map (λ (fault : plan.Fault). rejection.Plan fault.line fault.kind) (fault_in (script_in file))
 
+-- the fault of a file of vectors, as it is told
+abbrev pub fault_told : grammar.Fault → VectorsFault
+fault_told grammar.TooLong = vectors.TooLong
+fault_told (grammar.Line line) = vectors.Line line
+
+-- as a file of vectors, for these lengths
+abbrev pub vectors_judge : VecLen → VecLen → Judge
+vectors_judge vl svl file =
+    option_map (λ (fault : grammar.Fault). rejection.Vectors (fault_told fault))
+    (fault_in (vectors_in vl svl file))
+
 -- as what it is to be for a request, after these files, which are accepted
 abbrev pub judge_of : Request → List (List ℕ) → Kind → Judge
 judge_of request before ProgramFile = program_judge
@@ -77,6 +99,8 @@ judge_of request before SourceFile = source_judge
 judge_of request before ReportFile = report_judge
 judge_of request before PlanFile = plan_judge
 judge_of request before ScriptFile = script_judge
+judge_of request before VectorsFile =
+    vectors_judge (length_said request.options.vl) (length_said request.options.svl)
 
 -- the status of a rejection
 abbrev pub rejection_status : Rejection → Status
@@ -84,6 +108,7 @@ rejection_status (rejection.Program fault) = BadFile
 rejection_status (rejection.Source fault) = BadSource
 rejection_status (rejection.Report line kind) = BadReport
 rejection_status (rejection.Plan line kind) = BadPlan
+rejection_status (rejection.Vectors fault) = BadVectors
 
 -- its line
 abbrev pub rejection_line : Rejection → List ℕ
@@ -91,3 +116,4 @@ rejection_line (rejection.Program fault) = fault_line fault
 rejection_line (rejection.Source fault) = source_line fault
 rejection_line (rejection.Report line kind) = report_line (record { line = line; kind = kind })
 rejection_line (rejection.Plan line kind) = plan_line (record { line = line; kind = kind })
+rejection_line (rejection.Vectors fault) = vectors_line fault

@@ -1,6 +1,7 @@
 -- What the answers and refusals of the code stand for, on the way from the words to the writing.
 use Rattle.std.specs.Prelude.{◌≡◌, ◌⊎◌, ℕ, ◌+◌, [], List, Some, None, IfSome, IsSome, IsTrue, Result, Ok, Err}
 use Rattle.std.specs.Prelude.{option_map, take}
+use Rattle.std.specs.List.{flat_map}
 use Rattle.std.specs.String.{string_bytes}
 use Rattle.edge_io.specs.Cause.{Rose}
 use Rattle.edge_io.specs.Files.{Told, FilesView, IsKept}
@@ -37,6 +38,7 @@ use Rattle.smemu.specs.Rejections.{Judge, rejection_status, rejection_line}
 use Rattle.smemu.specs.Debug.{AllAnswers, FrontAnswers, recorded}
 use Rattle.smemu.specs.Replay.{mismatch, IsBlockIn, IsReplayOf, IsMismatched, IsParted, DiffersSo}
 use Rattle.smemu.specs.Requests.{reached_of}
+use Rattle.smemu.specs.Vectors.{with_line_feed}
 use Rattle.smemu.specs.declared.answer.Answer.{Answer}
 use Rattle.smemu.specs.declared.answer.Answer.TheVariants as answer
 use Rattle.smemu.specs.declared.answer.Text.{Text}
@@ -74,6 +76,7 @@ answer_text (texts.Simulation simulation) = simulation_text simulation
 answer_text (texts.Listing image) = listing_text image.code
 answer_text (texts.Program bytes) = bytes.items
 answer_text (texts.Block block) = excerpt_text block
+answer_text (texts.Lines lines) = flat_map with_line_feed lines.items
 answer_text (texts.Source number) = source_of number
 answer_text (texts.Summary summary) = summary_text summary
 answer_text texts.Help = help_text

@@ -5,6 +5,7 @@ ghost use Rattle.smemu.specs.Views.{answer_text, run_text, simulation_text};
 use crate::bench::{Summary, write_summary};
 use crate::debug::Debugging;
 use crate::excerpt::Excerpt;
+use crate::lines::write_lines;
 use code_listing::write_listing;
 use command_lines::{write_help, write_version};
 use edge_io::{PutFault, Sink};
@@ -12,7 +13,7 @@ use kernel_contexts::Finished;
 use paged_memory::Image;
 use report_text::{Head, write_report};
 use sim_text::write_sim;
-use sm_types::Entry;
+use sm_types::{Bytes, Entry};
 use workload::write_source;
 use world_core::Applied;
 
@@ -51,6 +52,8 @@ pub enum Text {
     Program(Vec<u8>),
     /// The block of a thread that was replayed, which stands in its report.
     Block(Excerpt),
+    /// Lines, without their line feeds.
+    Lines(Vec<Bytes>),
     /// The source of the workload of that number.
     Source(u32),
     /// What a workload came to.
@@ -103,6 +106,7 @@ pub fn write_text<K: Sink>(out: &mut K, text: &Text) -> Result<(), PutFault>
         Text::Listing(image) => write_listing(image.code(), out),
         Text::Program(bytes) => out.put(bytes.as_slice()),
         Text::Block(block) => out.put(block.bytes()),
+        Text::Lines(lines) => write_lines(out, lines.as_slice()),
         Text::Source(number) => write_source(*number, out),
         Text::Summary(summary) => write_summary(out, summary),
         Text::Help => write_help(out),

@@ -1,5 +1,5 @@
 //! The command of the words.
-ghost use Rattle.std.specs.Prelude.{◌≡◌, ◌≤◌, false, IfOk, IfErr, IsOk, Some, map};
+ghost use Rattle.std.specs.Prelude.{◌≡◌, ◌≤◌, false, true, Err, IfOk, IfErr, IsOk, IsErr, Some, map};
 ghost use Rattle.std.specs.String.{string_bytes};
 ghost use Rattle.a64_encode.specs.Writable.{IsWritable};
 ghost use Rattle.asm_core.specs.Assembly.{Assembles};
@@ -15,6 +15,7 @@ ghost use Rattle.smemu.specs.Answers.{IsReportOf, IsProgramOf};
 ghost use Rattle.smemu.specs.Ends.{change, call, IsDone, IsRefused, IsComplete, Fetches};
 ghost use Rattle.smemu.specs.Threads.{takes_threads, IsThreaded};
 ghost use Rattle.smemu.specs.Views.{run_text, end_status, CarriesOut, EndsWords, WritesEnd, WritesStatus};
+ghost use Rattle.smemu.specs.declared.refusal.Refusal.TheVariants as refusals;
 
 use crate::answer::{Answer, RunReport, Text, write_text};
 use crate::bench::run_workload;
@@ -198,7 +199,8 @@ fn bench<F: Files>(alloc: Global, number: u32, cores: u32, files: &mut F) -> Res
 
 /// Carries out a command that takes no threads.
 fn carry_out<F: Files>(alloc: Global, asked: Command, files: &mut F) -> Result<Answer, Refusal>
-    requires { IsInRange asked }
+    requires in_range { IsInRange asked }
+    requires alone { takes_threads (request_of asked) ≡ false }
     ensures { CarriesOut F.fetched F.view (request_of asked) files.old files.new result }
 {
     match asked {
@@ -221,6 +223,7 @@ fn carry_out<F: Files>(alloc: Global, asked: Command, files: &mut F) -> Result<A
             thread,
             script,
         } => debug_thread(alloc, program, report, thread, script, files),
+        Command::Vectors { .. } => unreachable!(),
         Command::Gen { number } => Ok(Answer::Text(Text::Source(number))),
         Command::Bench { number, cores } => bench(alloc, number, cores, files),
         Command::Help => Ok(Answer::Text(Text::Help)),
@@ -240,6 +243,7 @@ fn answer_asked<F: Files>(
         × (files.new ≡ files.old)) }
     ensures kept { IsKept (F.view files.old) (F.view files.new) }
     ensures alone { takes_threads (request_of asked) ≡ false → IsOk result }
+    ensures several { takes_threads (request_of asked) ≡ true → IsErr result }
 {
     if takes_threads(&asked) {
         return Err(Threaded { asked });
@@ -259,6 +263,8 @@ fn answer_words<F: Files>(
         Fetches F.fetched F.view words.now files.old files.new (end_status end)) }
     ensures threaded { IfErr result (λ it. (command_of (map string_bytes words.now)
         ≡ Some (request_of it.asked)) × IsThreaded it.asked × (files.new ≡ files.old)) }
+    ensures several { (request : Request) → command_of (map string_bytes words.now) ≡ Some request
+        → takes_threads request ≡ true → IfOk result (λ end. end ≡ Err refusals.Memory) }
     ensures alone { (request : Request) → command_of (map string_bytes words.now) ≡ Some request
         → takes_threads request ≡ false → IsOk result }
 {
@@ -297,8 +303,9 @@ fn finish<K: Sink>(out: &mut K, end: Result<Answer, Refusal>) -> Status
 }
 
 /// Carries out the command of the words as `smemu_main` does, where it takes no threads of the system: each
-/// but `run` and `bench` on several cores. It does not wait, so that it ends. `Err` is what the words ask for
-/// that does take threads; no file is fetched then, and nothing is written.
+/// but `run` and `bench` on several cores, and `vectors`. It does not wait, so that it ends. `Err` is what
+/// the words ask for that does take threads; no file is fetched then, and nothing is written. Of such words a
+/// status comes for want of memory alone.
 pub fn smemu_alone<F: Files, K: Sink>(
     alloc: Global,
     words: &[String],
@@ -317,6 +324,8 @@ pub fn smemu_alone<F: Files, K: Sink>(
         ≡ Some (request_of it.asked)) }
     ensures sound { IfErr result (λ it. IsThreaded it.asked) }
     ensures untouched { IfErr result (λ it. (files.new ≡ files.old) × (out.new ≡ out.old)) }
+    ensures several { (request : Request) → command_of (map string_bytes words.now) ≡ Some request
+        → takes_threads request ≡ true → IfOk result (λ status. status ≡ Status.OutOfMemory) }
     ensures alone { (request : Request) → command_of (map string_bytes words.now) ≡ Some request
         → takes_threads request ≡ false → IsOk result }
 {
@@ -336,11 +345,13 @@ pub fn smemu_alone<F: Files, K: Sink>(
 ///   may be written;
 /// - `dis PROGRAM` lists the program;
 /// - `asm SOURCE` assembles the source of that name: the program file;
+/// - `vectors FILE` with its options runs single instructions: what each does in the state of its line;
 /// - `gen N` writes the source of a workload, and `bench N` runs it: one line;
 /// - `--help` and `--version` write texts of their own.
 ///
 /// Other words are answered by the line of their first fault. A run on several cores is made by as many
-/// threads of the system, each of which passes the gate before it lets a guest thread run; there the call may
+/// threads of the system, each of which passes the gate before it lets a guest thread run; vectors are
+/// answered by as many as there are cores, each of which passes it before its first line. There the call may
 /// wait.
 pub fn smemu_main<R: Threads + Wait + Sync, F: Files, K: Sink, G: Gate + Sync>(
     rt: &R,

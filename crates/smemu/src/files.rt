@@ -1,5 +1,5 @@
 //! The files that a command names: each is fetched with its limit, and accepted as what it is to be.
-ghost use Rattle.std.specs.Prelude.{◌≡◌, All, IfOk, IfErr, Ok};
+ghost use Rattle.std.specs.Prelude.{◌≡◌, All, IfOk, IfErr, Ok, map};
 ghost use Rattle.std.specs.String.{string_bytes};
 ghost use Rattle.asm_core.specs.Assembly.{Assembles};
 ghost use Rattle.a64_encode.specs.Writable.{IsWritable};
@@ -9,15 +9,19 @@ ghost use Rattle.plan_reader.specs.Plan.{plan_in};
 ghost use Rattle.report_reader.specs.Report.{report_in};
 ghost use Rattle.report_reader.specs.Told.{report_said, StandsIn};
 ghost use Rattle.script_reader.specs.Script.{script_in};
+ghost use Rattle.vector_runner.specs.Grammar.{vectors_in, IsVector};
+ghost use Rattle.vector_runner.specs.Told.{vector_told};
 ghost use Rattle.smemu.specs.Ends.{change};
 ghost use Rattle.smemu.specs.Rejections.{ProgramFile, SourceFile, ReportFile, PlanFile, ScriptFile};
+ghost use Rattle.smemu.specs.Rejections.{VectorsFile};
 ghost use Rattle.smemu.specs.Rejections.{limit_of, program_judge, source_judge, report_judge};
-ghost use Rattle.smemu.specs.Rejections.{plan_judge, script_judge};
+ghost use Rattle.smemu.specs.Rejections.{plan_judge, script_judge, vectors_judge};
 ghost use Rattle.smemu.specs.Views.{IsFront, IsUnread, IsRejected, IsOpened, IsUnopened};
 
 use crate::refusal::{Refusal, Unread};
 use crate::rejection::Rejection;
 use asm_core::{AsmFault, assemble};
+use command_lines::VectorsFault;
 use edge_io::{FileFault, Files};
 use elf_loader::{LoadFault, load};
 use line_reader::TextFault;
@@ -25,11 +29,12 @@ use paged_memory::Image;
 use plan_reader::read_plan;
 use report_reader::{Report, ReportFault, read_report};
 use script_reader::{DebugCommand, read_script};
-use sm_types::{Object, WorldEvent};
+use sm_types::{Object, VecLen, WorldEvent};
 use std::alloc::Global;
+use vector_runner::{Vector, VectorFault, read_vectors};
 
-/// A file of more bytes than a program file, a source, a plan or a script may have is fetched up to its first
-/// byte too many.
+/// A file of more bytes than a program file, a source, a plan, a script or a file of vectors may have is
+/// fetched up to its first byte too many.
 const FETCH_LIMIT: u64 = 67_108_865;
 
 /// The same of a report.
@@ -138,6 +143,29 @@ fn script_file(alloc: Global, bytes: &[u8]) -> Result<Vec<DebugCommand>, Refusal
     }
 }
 
+/// The vectors of a file, for these lengths.
+fn vectors_file(
+    alloc: Global,
+    bytes: &[u8],
+    vl: VecLen,
+    svl: VecLen,
+) -> Result<Vec<Vector>, Refusal>
+    ensures read { IfOk result (λ vectors. vectors_in vl svl bytes.now ≡ Ok (map vector_told vectors.items)) }
+    ensures fit { IfOk result (λ vectors. All (IsVector vl svl) (map vector_told vectors.items)) }
+    ensures rejected { IfErr result (IsRejected (vectors_judge vl svl) bytes.now) }
+{
+    match read_vectors(alloc, bytes, vl, svl) {
+        Ok(vectors) => Ok(vectors),
+        Err(VectorFault::TooLong) => {
+            Err(Refusal::Rejected(Rejection::Vectors(VectorsFault::TooLong)))
+        }
+        Err(VectorFault::Line(line)) => {
+            Err(Refusal::Rejected(Rejection::Vectors(VectorsFault::Line(line))))
+        }
+        Err(VectorFault::Memory) => Err(Refusal::Memory),
+    }
+}
+
 /// The program file of that name, loaded.
 pub fn open_program<F: Files>(
     alloc: Global,
@@ -233,5 +261,28 @@ pub fn open_script<F: Files>(
 {
     let bytes = fetch_file(alloc, name, FETCH_LIMIT, files)?;
     let content = script_file(alloc, bytes.as_slice())?;
+    Ok(Opened { bytes, content })
+}
+
+/// The file of vectors of that name, read for these lengths.
+pub fn open_vectors<F: Files>(
+    alloc: Global,
+    name: String,
+    vl: VecLen,
+    svl: VecLen,
+    files: &mut F,
+) -> Result<Opened<Vec<Vector>>, Refusal>
+    ensures opened { IfOk result (λ it.
+        IsOpened (F.view files.old).told (string_bytes name) (vectors_judge vl svl) it.bytes.items) }
+    ensures read { IfOk result (λ it.
+        vectors_in vl svl it.bytes.items ≡ Ok (map vector_told it.content.items)) }
+    ensures fit { IfOk result (λ it. All (IsVector vl svl) (map vector_told it.content.items)) }
+    ensures unopened { IfErr result
+        (IsUnopened (change F.view files.old files.new) (string_bytes name) (vectors_judge vl svl)) }
+    ensures kept { IsKept (F.view files.old) (F.view files.new) }
+    ensures fetched { F.fetched files.old (string_bytes name) (limit_of VectorsFile) files.new }
+{
+    let bytes = fetch_file(alloc, name, FETCH_LIMIT, files)?;
+    let content = vectors_file(alloc, bytes.as_slice(), vl, svl)?;
     Ok(Opened { bytes, content })
 }

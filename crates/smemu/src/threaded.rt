@@ -1,4 +1,4 @@
-//! The commands that take threads of the system: `run` and `bench` on several cores.
+//! The commands that take threads of the system: `run` and `bench` on several cores, and `vectors`.
 ghost use Rattle.std.specs.Prelude.{◌≡◌, ◌≢◌, ◌≤◌, IfOk};
 ghost use Rattle.cmd_words.specs.Command.{request_of, IsInRange};
 ghost use Rattle.cmd_words.specs.declared.command.Command.TheVariants as command;
@@ -10,7 +10,7 @@ ghost use Rattle.smemu.specs.Views.{run_text, CarriesOut};
 use crate::answer::{Answer, RunReport, Text};
 use crate::bench::run_workload_on_cores;
 use crate::command::bench_options;
-use crate::files::open_program;
+use crate::files::{open_program, open_vectors};
 use crate::refusal::Refusal;
 use crate::run::run_on_cores;
 use cmd_words::Command;
@@ -22,6 +22,7 @@ use sm_types::{Config, Memory};
 use std::alloc::Global;
 use std::sync::Wait;
 use std::thread::Threads;
+use vector_runner::{one_file, run_vectors};
 
 /// What words ask for that takes threads of the system.
 #[derive(Drop)]
@@ -29,13 +30,14 @@ pub struct Threaded {
     pub(crate) asked: Command,
 }
 
-/// Whether a command takes threads: it is on several cores.
+/// Whether a command takes threads: it is on several cores, or has workers for vectors.
 pub fn takes_threads(asked: &Command) -> bool
     ensures { result ≡ spec.takes_threads (request_of asked.now) }
 {
     match asked {
         Command::Run { config, .. } => config.cores != 1,
         Command::Bench { cores, .. } => *cores != 1,
+        Command::Vectors { .. } => true,
         _ => false,
     }
 }
@@ -113,6 +115,28 @@ fn bench<R: Threads + Wait + Sync, F: Files, G: Gate + Sync>(
     }
 }
 
+/// `vectors FILE` with its options: the answers to the vectors of that file, by a worker for each core.
+fn answer_vectors<R: Threads + Sync, F: Files, G: Gate + Sync>(
+    rt: &R,
+    alloc: Global,
+    name: String,
+    config: &Config,
+    files: &mut F,
+    gate: &G,
+) -> Result<Answer, Refusal>
+    ensures { CarriesOut F.fetched F.view (request_of (command.Vectors name config.now)) files.old files.new
+        result }
+{
+    one_file();
+    let (vl, svl) = (config.vl, config.svl);
+    let read = open_vectors(alloc, name, vl, svl, files)?;
+    let vectors = read.content.as_slice();
+    match run_vectors(rt, alloc, vectors, vl, svl, config.cores, gate) {
+        Ok(lines) => Ok(Answer::Text(Text::Lines(lines))),
+        Err(Memory) => Err(Refusal::Memory),
+    }
+}
+
 /// Carries out a command that takes threads.
 pub fn carry_out_threaded<R: Threads + Wait + Sync, F: Files, G: Gate + Sync>(
     rt: &R,
@@ -128,6 +152,7 @@ pub fn carry_out_threaded<R: Threads + Wait + Sync, F: Files, G: Gate + Sync>(
     match asked {
         Command::Run { program, config } => run_program(rt, alloc, program, &config, files, gate),
         Command::Bench { number, cores } => bench(rt, alloc, number, cores, files, gate),
+        Command::Vectors { file, config } => answer_vectors(rt, alloc, file, &config, files, gate),
         _ => unreachable!(),
     }
 }

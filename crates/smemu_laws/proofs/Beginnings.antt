@@ -7,6 +7,9 @@ use Rattle.cmd_words.specs.declared.verb.Verb.{Verb}
 use Rattle.cmd_words.specs.declared.verb.Verb.TheVariants.{Replay, Debug}
 use Rattle.edge_io.specs.Files.{FilesView}
 use Rattle.report_reader.specs.Reading.{Fault}
+use Rattle.command_lines.specs.VectorsLines.{vectors_line}
+use Rattle.command_lines.specs.declared.vectors_line.VectorsFault.{VectorsFault}
+use Rattle.command_lines.specs.declared.vectors_line.VectorsFault.TheVariants as vectors
 use Rattle.command_lines.specs.FaultLines.{fault_line, fault_words}
 use Rattle.plan_reader.specs.Plan as plan
 use Rattle.command_lines.specs.PlanLines.{plan_line, fault_word}
@@ -15,7 +18,7 @@ use Rattle.command_lines.specs.SourceLines.{source_line, source_words, line_numb
 use Rattle.command_lines.specs.Texts.{HasFront, kind_word, status_words, usage_line}
 use Rattle.command_lines.specs.declared.status.Status.{Status}
 use Rattle.command_lines.specs.declared.status.Status.TheVariants.{Done, Usage, Absent, ReadFault, WriteFault, OutOfMemory, BadReport, Differs}
-use Rattle.command_lines.specs.declared.status.Status.TheVariants.{BadPlan}
+use Rattle.command_lines.specs.declared.status.Status.TheVariants.{BadPlan, BadVectors}
 use Rattle.smemu.specs.Answers.{IsToldBy, outcomes_of}
 use Rattle.smemu.specs.DifferLines.{parting_line, parting_words}
 use Rattle.smemu.specs.Ends.{Change, Defined, Stands}
@@ -32,6 +35,11 @@ plan_begun : (fault : plan.Fault) (text : List ℕ) → text ≡ plan_line fault
 unfolding plan_line
 plan_begun fault text e = (concat (decimal fault.line ∷ codes ": " ∷ fault_word fault.kind ∷ codes "\n" ∷ []), e)
 
+vectors_begun : (fault : VectorsFault) (text : List ℕ) → text ≡ vectors_line fault → HasFront text (status_words BadVectors)
+unfolding vectors_line
+vectors_begun vectors.TooLong text e = (codes "toolong\n", e)
+vectors_begun (vectors.Line line) text e = (concat (codes "line " ∷ decimal line ∷ codes "\n" ∷ []), e)
+
 rejection_begun : (rejection : Rejection) (text : List ℕ) → text ≡ rejection_line rejection
     → HasFront text (status_words (rejection_status rejection))
 unfolding fault_line source_line
@@ -40,6 +48,7 @@ rejection_begun (rejection.Source fault) text e =
     (concat (decimal (line_number fault) ∷ codes ": " ∷ source_words fault ∷ codes "\n" ∷ []), e)
 rejection_begun (rejection.Report line kind) text e = report_begun (record { line = line; kind = kind }) text e
 rejection_begun (rejection.Plan line kind) text e = plan_begun (record { line = line; kind = kind }) text e
+rejection_begun (rejection.Vectors fault) text e = vectors_begun fault text e
 
 so_begun : (file report : List ℕ) (thread : ℕ) (text : List ℕ) → DiffersSo file report thread text → HasFront text (status_words Differs)
 unfolding parting_line difference_lines

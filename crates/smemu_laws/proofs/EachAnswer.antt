@@ -9,7 +9,7 @@ use Rattle.script_reader.specs.declared.command.DebugCommand.TheVariants.{Step, 
 use Rattle.sme_debugger.specs.Answers.{Answers, IsNext, NoneBetween, shown_text}
 use Rattle.sme_debugger.specs.Recording.{Recording, Shows, counts_by, reached_by}
 use Rattle.sme_debugger.proofs.Recorded.{none_at_first, none_more}
-use Rattle.smemu.specs.Debug.{AllAnswers, Leads}
+use Rattle.smemu.specs.Debug.{AllAnswers}
 
 -- ---- the first number up to one that a function makes that, if there is one
 

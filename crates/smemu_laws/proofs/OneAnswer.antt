@@ -1,7 +1,7 @@
 -- Two texts that answer the same request for the same files are equal.
-use Rattle.std.proofs.Common.{◌≡◌, ℕ, ◌≤◌, List, [], ◌∷◌, length, cond, Option, Some, Result, Ok, refl, sym, ◌∙◌, ap}
+use Rattle.std.proofs.Common.{◌≡◌, ℕ, List, [], ◌∷◌, length, cond, Option, Some, Result, Ok, sym, ◌∙◌, ap}
 use Rattle.std.proofs.Common.{subst}
-use Rattle.std.specs.Prelude.{◌==◌, slice_get, slice_index, if◌then◌else◌}
+use Rattle.std.specs.Prelude.{◌==◌, slice_get, slice_index}
 use Rattle.sha2.specs.Sha256.{sha256}
 use Rattle.sm_types.specs.declared.config.Config.{Config}
 use Rattle.sm_types.specs.declared.object.Object.{Object}
@@ -23,9 +23,14 @@ use Rattle.report_reader.specs.Reading.{Fault}
 use Rattle.report_reader.specs.Report.{Report, report_in}
 use Rattle.smemu.specs.Replay.{IsBlockIn, IsReplayOf, text_in}
 use Rattle.sim_text.specs.Sim.{sim_text}
+use Rattle.vector_runner.specs.Field.{Vector}
+use Rattle.vector_runner.specs.Grammar as grammar
+use Rattle.vector_runner.specs.Grammar.{vectors_in}
+use Rattle.vector_runner.specs.Run.{answers_text}
 use Rattle.workload.specs.Source.{source_of}
 use Rattle.smemu.specs.Answers.{IsReportOf, IsReport, IsListingOf, IsProgramOf}
 use Rattle.smemu.specs.Bench.{all_counted, bench_line, IsBench, IsBenchOf}
+use Rattle.smemu.specs.Vectors.{IsAnswersOf, length_said}
 use Rattle.smemu.specs.Worlds.{AreEndsIn, AreSerialEnds, IsSimulationOf, IsSimulation}
 use Rattle.world_core.specs.Happens.{world_after, answers_after}
 use Rattle.world_core.specs.World.{World, start_world}
@@ -153,3 +158,13 @@ one_simulation file plan options text other h g =
 pub one_listing : (file text other : List ℕ) → IsListingOf file text → IsListingOf file other → text ≡ other
 one_listing file text other h g =
     h.is_text ∙ ap listing_text (h.loads.code_is ∙ sym g.loads.code_is) ∙ sym g.is_text
+
+same_vectors : (read : Result (List Vector) grammar.Fault) (a b : List Vector) → read ≡ Ok a → read ≡ Ok b → a ≡ b
+same_vectors read a b e h = cc
+
+pub one_answers : (file : List ℕ) (options : Numbers) (text other : List ℕ) → IsAnswersOf file options text
+    → IsAnswersOf file options other → text ≡ other
+one_answers file options text other h g =
+    let vl = length_said options.vl in
+    let svl = length_said options.svl in
+    h.is_text ∙ ap (answers_text vl svl) (same_vectors (vectors_in vl svl file) h.vectors g.vectors h.read g.read) ∙ sym g.is_text

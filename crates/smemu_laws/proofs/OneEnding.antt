@@ -8,7 +8,8 @@ use Rattle.sm_types.specs.declared.config.Config.{Config}
 use Rattle.sm_types.specs.declared.numbers.Numbers.{Numbers}
 use Rattle.cmd_words.specs.Words.{Argument, ThreadSaid, WorkloadSaid, Request, command_of}
 use Rattle.cmd_words.specs.declared.verb.Verb.{Verb}
-use Rattle.cmd_words.specs.declared.verb.Verb.TheVariants.{Run, Sim, Dis, Asm, Replay, Debug, Gen, Bench, Help, Version}
+use Rattle.cmd_words.specs.declared.verb.Verb.TheVariants.{Run, Sim, Dis, Asm, Replay, Debug, Vectors, Gen, Bench}
+use Rattle.cmd_words.specs.declared.verb.Verb.TheVariants.{Help, Version}
 use Rattle.edge_io.specs.Files.{FilesView}
 use Rattle.lone_runner.specs.Parting.{EndsAt, IsParting}
 use Rattle.lone_runner.specs.declared.fault.AloneFault.{AloneFault}
@@ -36,7 +37,7 @@ use Rattle.smemu.specs.declared.rejection.Rejection.TheVariants as rejection
 use Rattle.smemu_laws.specs.OneAnswer.{AreOneText}
 use Rattle.smemu_laws.proofs.Fates.{Fate, AllAccepted, Missing, Refused, IsDecided, missing_line, accepted_fate, decided}
 use Rattle.smemu_laws.proofs.OneAnswer.{same_said, one_assembly, one_block, one_listing, one_replay, one_run_report}
-use Rattle.smemu_laws.proofs.OneAnswer.{one_bench, one_simulation}
+use Rattle.smemu_laws.proofs.OneAnswer.{one_answers, one_bench, one_simulation}
 use Rattle.smemu_laws.proofs.OneDebug.{debug_whole, one_debug}
 use Rattle.command_lines.specs.Texts.{HasFront}
 
@@ -224,6 +225,7 @@ one_outcome Debug BadReport Differs (program ∷ report ∷ ThreadSaid thread �
 one_outcome Debug Differs BadReport (program ∷ report ∷ ThreadSaid thread ∷ script ∷ []) options (file ∷ bytes ∷ lines ∷ [])
     text other m n h g =
     absurd (matched file bytes thread h.at g.fault g.is_mismatched)
+one_outcome Vectors Done Done operands options (file ∷ []) text other m n h g = (refl, one_answers file options text other h g)
 one_outcome Gen Done Done (WorkloadSaid number ∷ []) options [] text other m n h g = (refl, h ∙ sym g)
 one_outcome Bench Done Done (WorkloadSaid number ∷ []) options [] text other m n h g =
     (refl, λ one. one_bench number options text other one h g)

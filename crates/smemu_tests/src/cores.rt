@@ -1,5 +1,6 @@
 //! That a run on several cores uses all of them: each core's first turn is held until the other cores have
-//! come to theirs, and the turns that the cores tell are counted.
+//! come to theirs, and the turns that the cores tell are counted. And that vectors have all their workers, of
+//! which the first line of each is held so.
 
 use crate::tests::{answer_file, status_with};
 use edge_io::{Gate, MemFiles, MemSink};
@@ -139,5 +140,25 @@ fn a_bench_uses_all_its_cores(rt: HostRuntime) -> Result<(), Fail> {
         assert_eq!(rt; counts(&gate.firsts), [1, 1, 1, 1]);
         assert_eq!(rt; counts(&gate.passes), [passes; 4]);
     }
+    Ok(())
+}
+
+// Five lines for four workers: the first two have two each, the third has one, and the last has none and
+// passes no gate. A body that has one worker answer all lines passes it once.
+#[test]
+fn vectors_have_all_their_workers(rt: HostRuntime) -> Result<(), Fail> {
+    let mut files = MemFiles::new(rt.alloc());
+    files.add(
+        "lines",
+        b"d503201f\nd4000021\nd4000041\nd4000061\nd4000081\n",
+    )?;
+    let words = ["vectors", "lines", "--cores", "4"];
+    let (gate, out) = written_at_gate(&rt, &words, &mut files, 3)?;
+    assert_eq!(rt; gate.missed.load(Ordering::SeqCst), 0);
+    assert_eq!(rt; counts(&gate.firsts), [1, 1, 1, 0]);
+    // the indices of their first lines are 0, 2 and 4
+    assert_eq!(rt; counts(&gate.passes), [1, 0, 1, 0]);
+    let text = b"next pc=0000000000020004\ncall 1\ncall 2\ncall 3\ncall 4\n";
+    assert!(rt; out.bytes() == text.as_slice());
     Ok(())
 }

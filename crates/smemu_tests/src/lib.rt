@@ -98,6 +98,15 @@ mod tests {
 3: badnumber|debug|p|r|x|s
 3: outofrange|debug|p|r|32|s
 5: extra|debug|p|r|31|s|t
+1: missing|vectors
+2: unknown|vectors|f|g
+2: unknown|vectors|f|--slice|1
+2: unknown|vectors|f|--threads|1
+3: missing|vectors|f|--vl
+3: outofrange|vectors|f|--svl|129
+3: outofrange|vectors|f|--cores|65
+5: badnumber|vectors|f|--vl|128|--cores|01
+4: repeated|vectors|f|--cores|2|--cores|2
 1: extra|--version|--help
 1: missing|gen
 1: badnumber|gen|x
@@ -153,15 +162,17 @@ mod tests {
         Ok(smemu_in_memory(rt, rt.alloc(), words.as_slice(), files, out))
     }
 
-    /// What takes no threads is answered without any; a run on several cores is handed back, with nothing
-    /// written.
+    /// What takes no threads is answered without any; a run on several cores is handed back, and so are
+    /// vectors, with nothing written.
     #[test]
-    fn a_run_on_several_cores_is_handed_back(rt: HostRuntime) -> Result<(), Fail> {
-        let cases: [(&[&str], Option<Status>); 4] = [
+    fn what_takes_threads_is_handed_back(rt: HostRuntime) -> Result<(), Fail> {
+        let cases: [(&[&str], Option<Status>); 6] = [
             (&["run", "answer"], Some(Status::Done)),
             (&["run", "answer", "--cores", "2"], None),
             (&["bench", "1", "--cores", "64"], None),
             (&["run", "absent", "--cores", "1"], Some(Status::Absent)),
+            (&["vectors", "answer"], None),
+            (&["vectors", "absent", "--cores", "1"], None),
         ];
         for (texts, wanted) in cases {
             let words = words(rt.alloc(), texts)?;
@@ -319,6 +330,18 @@ mod tests {
         Ok(())
     }
 
+    #[test]
+    fn a_file_of_vectors_of_one_byte_more_than_64_mib(rt: HostRuntime) -> Result<(), Fail> {
+        let bytes = vec![in rt.alloc(); b'0'; 67_108_865]?;
+        let mut files = MemFiles::new(rt.alloc());
+        files.add("long", bytes.as_slice())?;
+        let mut out = MemSink::new(rt.alloc(), 100)?;
+        let status = status_of(&rt, &["vectors", "long"], &mut files, &mut out)?;
+        assert_eq!(rt; status, Status::BadVectors);
+        assert!(rt; out.bytes() == b"bad vectors: toolong\n".as_slice());
+        Ok(())
+    }
+
     /// The files of the answer, with the report of its run.
     fn reported<R: AllocGlobal + Threads + Wait + Sync>(rt: &R) -> Result<MemFiles, Fail> {
         let mut files = answer_file(rt.alloc())?;
@@ -375,6 +398,7 @@ mod tests {
             "\n  asm SOURCE ",
             "\n  replay PROGRAM REPORT THREAD\n",
             "\n  debug PROGRAM REPORT THREAD SCRIPT\n",
+            "\n  vectors FILE ",
             "\n  gen N ",
             "\n  bench N ",
             "\n  --vl BITS ",
@@ -392,6 +416,7 @@ mod tests {
             "bad report: line L: KIND",
             "differs: ",
             "bad plan: line L: KIND",
+            "bad vectors: toolong, or line L",
         ] {
             assert!(rt; help.contains(part), "{part}");
         }

@@ -8,10 +8,11 @@ use Rattle.cmd_words.specs.Options.{default_options, default_of, with_number}
 use Rattle.cmd_words.specs.Words.{NameSaid, ThreadSaid, WorkloadSaid}
 use Rattle.cmd_words.specs.declared.setting.Setting.TheVariants.{Cores}
 use Rattle.cmd_words.specs.declared.form.Operand.TheVariants.{Name, Thread, Workload}
-use Rattle.cmd_words.specs.declared.verb.Verb.TheVariants.{Run, Sim, Dis, Asm, Replay, Debug, Gen, Bench, Help, Version}
+use Rattle.cmd_words.specs.declared.verb.Verb.TheVariants.{Run, Sim, Dis, Asm, Replay, Debug, Vectors, Gen, Bench}
+use Rattle.cmd_words.specs.declared.verb.Verb.TheVariants.{Help, Version}
 use Rattle.cmd_words.proofs.Numbers.{both_ends}
 use Rattle.cmd_words.proofs.Reading.{asked_for, both_named, debugged, given_options, named, no_options, replayed}
-use Rattle.cmd_words.proofs.Reading.{bench_options, number_in_range, numbered, operand_stands, to_end}
+use Rattle.cmd_words.proofs.Reading.{bench_options, number_in_range, numbered, operand_stands, to_end, vector_numbers}
 use Rattle.cmd_words.proofs.words.make_command.Goals as goal
 
 pub returns-in_ok-name_at-in-Run-clause-command : goal.returns-in_ok-name_at-in-Run-clause-command
@@ -87,6 +88,17 @@ returns-in_ok-name_at-in-Debug-3-clause-command c =
     (rw c.in-Debug.is at c.requires.verb)
     (debugged words program report thread script c.in_ok-name_at-in-Debug.ensures.ok c.in_ok-name_at-in-Debug-2.ensures.ok
     c.thread_at-in-Debug.ensures.number c.in_ok-name_at-in-Debug-3.ensures.ok) (no_options Debug words refl)
+
+pub returns-in_ok-name_at-in-Vectors-clause-command : goal.returns-in_ok-name_at-in-Vectors-clause-command
+returns-in_ok-name_at-in-Vectors-clause-command c =
+    let words = map string_bytes c.args.words.now in
+    let file = string_bytes c.in_ok-name_at-in-Vectors.field-0 in
+    let size = sym (length-map c.args.words.now string_bytes) in
+    let read = rw c.in-Vectors.is at c.requires.read in
+    rw c.config-in-Vectors.ensures
+    (asked_for words c.args.given.now Vectors (NameSaid file ∷ []) (numbers_given c.args.given.now) (length c.args.words.now) size read
+    (rw c.in-Vectors.is at c.requires.verb) (named words file c.in_ok-name_at-in-Vectors.ensures.ok)
+    (vector_numbers words c.args.given.now (to_end words (form_of Vectors) c.args.given.now (length c.args.words.now) size read)))
 
 pub workload_at-requires-clause-number : goal.workload_at-requires-clause-number
 workload_at-requires-clause-number c =

@@ -9,7 +9,7 @@ use Rattle.smemu.specs.Requests.{reached_asked}
 use Rattle.smemu.specs.Threads.{IsThreaded}
 use Rattle.smemu.specs.Views.{end_status, CarriesOut, EndsWords}
 use Rattle.smemu.proofs.Ends.{asked_ends, fetches_asked, fetches_none, fetches_unread, if_err, if_ok, no_request, same_takes}
-use Rattle.smemu.proofs.Ends.{usage_stands}
+use Rattle.smemu.proofs.Ends.{usage_stands, no_some, none_ok, same_takes_some}
 use Rattle.smemu.proofs.command.answer_words.Goals as goal
 
 pub returns-in-Ok-clause-ends : goal.returns-in-Ok-clause-ends
@@ -51,6 +51,19 @@ pub returns-in-Ok-clause-alone : goal.returns-in-Ok-clause-alone
 returns-in-Ok-clause-alone g c =
     λ request asks alone. c.answer_asked.ensures.alone
     (same_takes (command_of (map string_bytes c.args.words.now)) (request_of c.in-Ok.asked) request c.in-Ok.ensures.command asks alone)
+
+pub returns-in-Ok-clause-several : goal.returns-in-Ok-clause-several
+returns-in-Ok-clause-several g c =
+    λ request asks takes. none_ok _ c.answer_asked.result (c.answer_asked.ensures.several
+    (same_takes_some (command_of (map string_bytes c.args.words.now)) (request_of c.in-Ok.asked) request c.in-Ok.ensures.command asks takes))
+
+pub returns-in-Err-Usage-clause-several : goal.returns-in-Err-Usage-clause-several
+returns-in-Err-Usage-clause-several g c =
+    let is_fault : usage_fault (map string_bytes c.args.words.now)
+    ≡ Some (record { place = c.in-Err-Usage.place; kind = c.in-Err-Usage.kind }) =
+    rw c.in-Err-Usage.field-0-is at c.in-Err-Usage.ensures.fault in
+    let none = no_request (map string_bytes c.args.words.now) _ is_fault in
+    λ request asks takes. absurd (no_some (command_of (map string_bytes c.args.words.now)) request none asks)
 
 pub returns-in-Err-Usage-clause-ends : goal.returns-in-Err-Usage-clause-ends
 returns-in-Err-Usage-clause-ends g c =

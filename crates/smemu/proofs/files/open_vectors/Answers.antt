@@ -1,0 +1,24 @@
+use Rattle.std.proofs.Common.{rules, lit<}
+use Rattle.std.specs.String.{string_bytes}
+use Rattle.smemu.specs.Ends.{change}
+use Rattle.smemu.specs.Rejections.{vectors_judge}
+use Rattle.smemu.specs.Views.{IsUnopened}
+use Rattle.smemu.specs.declared.files.TheConstants.{FETCH_LIMIT}
+use Rattle.smemu.proofs.Whole.{no_fault_in, opened_file, vectors_bounded, unopened_file}
+use Rattle.smemu.proofs.files.open_vectors.Goals as goal
+
+pub returns-in_err-content-clause-unopened : goal.returns-in_err-content-clause-unopened
+returns-in_err-content-clause-unopened g c =
+    let files = change g.F.Files.view c.args.files.now c.fetch_file.new.files in
+    let judge = vectors_judge c.args.vl c.args.svl in
+    let why : IsUnopened files (string_bytes c.args.name) judge c.in_err-content.field-0.0 =
+    unopened_file judge 67108864 (vectors_bounded c.args.vl c.args.svl) files FETCH_LIMIT (string_bytes c.args.name)
+    c.in_ok-bytes.bytes.items c.in_err-content.field-0.0 (lit< tt)
+    c.in_ok-bytes.ensures.front (rw c.as_slice.ensures.value at c.in_err-content.ensures.rejected) in
+    search rules
+
+pub returns-clause-opened : goal.returns-clause-opened
+returns-clause-opened g c =
+    opened_file (vectors_judge c.args.vl c.args.svl) 67108864 (vectors_bounded c.args.vl c.args.svl)
+    (g.F.Files.view c.args.files.now).told FETCH_LIMIT (string_bytes c.args.name) c.in_ok-bytes.bytes.items (lit< tt)
+    c.in_ok-bytes.ensures.front (no_fault_in _ _ _ (rw c.as_slice.ensures.value at c.in_ok-content.ensures.read))
