@@ -10,7 +10,8 @@ mod quiet;
 mod routines;
 mod runs;
 
+pub use block::{buffer_address, read_block, saved_bytes};
 pub use laws::routines_run_with_handlers;
-pub use places::RoutinePlaces;
+pub use places::{RoutinePlaces, is_ready};
 pub use routines::{can_disable, can_return};
 pub use runs::{run_disable, run_tail};

@@ -1,0 +1,13 @@
+pub mod Marked
+pub mod Words
+pub mod Same
+pub mod Listed
+pub mod Once
+pub mod OneMark
+pub mod Walk
+pub mod Next
+pub mod Followed
+pub mod Went
+pub mod Settled
+pub mod Lawful
+pub mod Rows

@@ -1,0 +1,239 @@
+-- What is told of the next state of a run.
+use Rattle.std.proofs.Common.{◌⊎◌, inl, inr, ◌≡◌, ℕ, zero, suc, ◌+◌, ◌<◌, ◌≤◌, List, [], ◌∷◌, ◌++◌, length, filter, refl, ap, sym, ◌∙◌}
+use Rattle.std.proofs.Common.{arith, subst, Bool, true, false, Option, Some, None}
+use Rattle.std.specs.Prelude.{not, ◌==◌, ◌&&◌}
+use Rattle.std.specs.List.{All, Contains}
+use Rattle.std.proofs.lemmas.List.{length_push}
+use Rattle.std.proofs.lemmas.List.Elements.{All-contains}
+use Rattle.std.proofs.lemmas.List.Filters.{length-filter_both}
+use Rattle.std.proofs.lemmas.Bool.Decides.{nat_tests}
+use Rattle.kernel_contexts.specs.State.{State}
+use Rattle.lazy_saving.specs.Dormant.{Places, IsDormantAt, IsLawful}
+use Rattle.za_routines.specs.Places.{places_of}
+use Rattle.lone_runner.proofs.Partings.{compared}
+use Rattle.abi_checker.specs.Marks.{IsCall, IsMarkedCall, IsBackFrom, past_call}
+use Rattle.abi_checker.specs.Numbers.{NumberOf}
+use Rattle.abi_checker.specs.Faults.{IsMarkedAt, IsReturn, IsOpen, HasFault, IsFirstFault, ReturnsUnlawfully, CallsUndormant}
+use Rattle.abi_checker.specs.Faults.{CallsTooDeep, block_of, order_of}
+use Rattle.abi_checker.specs.Keeping.{IsKept}
+use Rattle.abi_checker.specs.Returning.{is_back, IsFine, IsUnlawful}
+use Rattle.abi_checker.specs.Watching.{IsHeld, IsWalked, IsMarkedPast, IsPast}
+use Rattle.abi_checker.specs.declared.abi.AbiKind.{AbiKind}
+use Rattle.abi_checker.specs.declared.abi.AbiKind.TheVariants.{NotDormant, NotLawful, TooDeep}
+use Rattle.abi_checker.specs.declared.open_call.OpenCall.{OpenCall}
+use Rattle.abi_checker.proofs.Once.{one_number}
+use Rattle.abi_checker.proofs.Walk.{one_place, count_open, of_list, in_list, walked_on}
+
+-- ---- whether a state is back from a call
+
+pub both : (a b c : Bool) → (a && (b && c)) ≡ true → (a ≡ true) × (b ≡ true) × (c ≡ true)
+both true true true e = (refl, refl, refl)
+both true true false e = cc
+both true false c e = cc
+both false b c e = cc
+
+all_three : (a b c : Bool) → a ≡ true → b ≡ true → c ≡ true → (a && (b && c)) ≡ true
+all_three true true true e f g = refl
+all_three true true false e f g = cc
+all_three true false c e f g = cc
+all_three false b c e f g = cc
+
+pub equal : (a b : ℕ) → (a == b) ≡ true → a ≡ b
+equal a b e = grind (arith, nat_tests)
+
+equal_back : (a b : ℕ) → a ≡ b → (a == b) ≡ true
+equal_back a b e = grind (arith, nat_tests)
+
+pub back_means : (s r : State) (call : OpenCall) → IsKept call s → is_back r call ≡ true
+    → IsBackFrom (places_of call.places) s r
+back_means s r call h e =
+    let t = both (r.core.scalars.pc == call.places.tail) (r.core.scalars.sp == call.sp) (r.depth == call.depth) e in
+    record {
+      pc = equal r.core.scalars.pc call.places.tail t.0;
+      sp = equal r.core.scalars.sp call.sp t.1 ∙ h.sp;
+      depth = equal r.depth call.depth t.2 ∙ h.depth;
+    }
+
+pub back_tells : (s r : State) (call : OpenCall) → IsKept call s → IsBackFrom (places_of call.places) s r
+    → is_back r call ≡ true
+back_tells s r call h b =
+    all_three (r.core.scalars.pc == call.places.tail) (r.core.scalars.sp == call.sp) (r.depth == call.depth)
+    (equal_back r.core.scalars.pc call.places.tail b.pc) (equal_back r.core.scalars.sp call.sp (b.sp ∙ sym h.sp))
+    (equal_back r.depth call.depth (b.depth ∙ sym h.depth))
+
+not_true : (b : Bool) → not b ≡ true → b ≡ false
+not_true true e = cc
+not_true false e = refl
+
+not_false : (b : Bool) → not b ≡ false → b ≡ true
+not_false true e = refl
+not_false false e = cc
+
+differ : (b : Bool) → b ≡ true → b ≡ false → ⊥
+differ b e f = let no : true ≡ false = sym e ∙ f in cc
+
+-- ---- the next state
+
+module _ (run : ℕ → State) (n : ℕ) (calls : List OpenCall) (returned : ℕ)
+    (none : (m : ℕ) (kind : AbiKind) → m ≤ n → ¬ HasFault run m kind)
+    (walked : IsWalked run n (suc n) calls returned) where
+  abbrev next : State
+  next = run (suc n)
+
+  earlier : (m : ℕ) (other : AbiKind) → m < suc n → ¬ HasFault run m other
+  earlier m other less = none m other (omega (arith, less))
+
+  none_first : (other : AbiKind) → order_of run other < 0 → ⊥
+  none_first other less = omega (arith, less)
+
+  -- a call returns unlawfully
+  pub unlawful_first : (call : OpenCall) → Contains calls call → IsUnlawful next call → IsFirstFault run (suc n) NotLawful
+  unlawful_first call is h =
+      let held = of_list run n (suc n) calls returned call walked is in
+      record {
+        fault = record {
+          call = held.0;
+          places = places_of call.places;
+          return = record {
+            marked = held.2.marked;
+            after = held.1;
+            back = back_means (run held.0) next call held.2.kept h.back;
+            first = λ m after before. held.2.never m after (omega (arith, before));
+          };
+          unlawful = h.unlawful (run held.0) held.2.kept;
+        };
+        earlier = earlier;
+        sooner = λ other less. absurd (none_first other less);
+      }
+
+  module _ (fine : All (IsFine next) calls) where
+    no_unlawful : ¬ ReturnsUnlawfully run (suc n)
+    no_unlawful f =
+        let still : IsOpen run n f.call = record {
+          places = f.places;
+          marked = f.return.marked;
+          never = λ m after by. f.return.first m after (omega (arith, by));
+        } in
+        let found = in_list run n (suc n) calls returned f.call walked f.return.after still in
+        let same = one_place run f.call (places_of found.0.places) f.places found.2.marked f.return.marked in
+        let back = subst (λ (p : Places). IsBackFrom p (run f.call) next) (sym same) f.return.back in
+        let lawful =
+        All-contains (IsFine next) calls found.0 fine found.1 (back_tells (run f.call) next found.0 found.2.kept back)
+        (run f.call) found.2.kept in
+        f.unlawful (subst (λ (p : Places). IsLawful p (run f.call).core next.core (block_of (run f.call))) same lawful)
+
+    stays : (k : ℕ) (call : OpenCall) → IsHeld run n k call → not (is_back next call) ≡ true
+        → ¬ IsBackFrom (places_of call.places) (run k) next
+    stays k call h e back =
+        differ (is_back next call) (back_tells (run k) next call h.kept back) (not_true (is_back next call) e)
+
+    backs : (k : ℕ) (call : OpenCall) → IsHeld run n k call → not (is_back next call) ≡ false
+        → IsBackFrom (places_of call.places) (run k) next
+    backs k call h e = back_means (run k) next call h.kept (not_false (is_back next call) e)
+
+    module _ (left : List OpenCall) (now : ℕ) (is : left ≡ filter (λ call. not (is_back next call)) calls)
+        (all : now + length left ≡ returned + length calls) where
+      pub passed : IsWalked run (suc n) (suc n) left now
+      passed =
+          subst (λ (l : List OpenCall). IsWalked run (suc n) (suc n) l now) (sym is)
+          (walked_on run n (λ call. not (is_back next call)) stays backs (suc n) calls returned now (omega arith) walked
+          (ap (λ (l : List OpenCall). now + length l) (sym is) ∙ all))
+
+      pub no_more : length left ≤ length calls
+      no_more =
+          let sum = length-filter_both (λ call. not (is_back next call)) (λ call. not (not (is_back next call))) (λ call. refl) calls in
+          let same : length left ≡ length (filter (λ call. not (is_back next call)) calls) = ap (λ (l : List OpenCall). length l) is in
+          omega (arith, sum, same)
+
+      -- no call is marked
+      module _ (unmarked : (p : Places) → ¬ IsMarkedAt run p (suc n)) where
+        no_fault : (kind : AbiKind) → ¬ HasFault run (suc n) kind
+        no_fault NotLawful f = no_unlawful f
+        no_fault NotDormant f = unmarked f.places f.marked
+        no_fault TooDeep f = unmarked f.places f.marked
+
+        pub none_unmarked : (m : ℕ) (kind : AbiKind) → m ≤ suc n → ¬ HasFault run m kind
+        none_unmarked m kind within = elim (compared m (suc n)) as (λ _. ¬ HasFault run m kind) [
+          | inl less ↦ earlier m kind less
+          | inr (inl same) ↦ subst (λ i. ¬ HasFault run i kind) (sym same) (no_fault kind)
+          | inr (inr more) ↦ absurd (omega (arith, within, more))
+        ]
+
+        pub walked_unmarked : IsWalked run (suc n) (suc (suc n)) left now
+        walked_unmarked = inr (inr (unmarked, passed))
+
+      -- a call is marked, and at no fault
+      module _ (call : OpenCall) (marked : IsMarkedAt run (places_of call.places) (suc n)) (kept : IsKept call next)
+          (few : length left < 256) where
+        is_dormant : IsDormantAt (places_of call.places) next.core (block_of next)
+        is_dormant = subst (λ b. IsDormantAt (places_of call.places) next.core b) kept.block kept.kept.dormant
+
+        clean : (kind : AbiKind) → ¬ HasFault run (suc n) kind
+        clean NotLawful f = no_unlawful f
+        clean NotDormant f =
+            let same = one_place run (suc n) (places_of call.places) f.places marked f.marked in
+            f.active (subst (λ (p : Places). IsDormantAt p next.core (block_of next)) same is_dormant)
+        clean TooDeep f =
+            let many : f.depth ≡ length left =
+            one_number (IsOpen run (suc n)) (suc n) f.depth (length left) f.others
+            (count_open run (suc n) (suc n) left now passed) in
+            let most : 256 ≤ f.depth = f.many in
+            omega (arith, many, most, few)
+
+        pub none_added : (m : ℕ) (kind : AbiKind) → m ≤ suc n → ¬ HasFault run m kind
+        none_added m kind within = elim (compared m (suc n)) as (λ _. ¬ HasFault run m kind) [
+          | inl less ↦ earlier m kind less
+          | inr (inl same) ↦ subst (λ i. ¬ HasFault run i kind) (sym same) (clean kind)
+          | inr (inr more) ↦ absurd (omega (arith, within, more))
+        ]
+
+        pub walked_added : IsWalked run (suc n) (suc (suc n)) (left ++ call ∷ []) now
+        walked_added =
+            inl (
+              left,
+              call,
+              refl,
+              record {
+                kept = kept;
+                marked = marked;
+                never = λ m after by. absurd (omega (arith, after, by));
+              },
+              passed,
+            )
+
+      sooner_undormant : (other : AbiKind) → order_of run other < 1 → ¬ HasFault run (suc n) other
+      sooner_undormant NotLawful less = no_unlawful
+      sooner_undormant NotDormant less = absurd (omega (arith, less))
+      sooner_undormant TooDeep less = absurd (omega (arith, less))
+
+      -- a call is marked, and not dormant
+      pub undormant_first : (p : Places) → IsMarkedAt run p (suc n) → ¬ IsDormantAt p next.core (block_of next)
+          → IsFirstFault run (suc n) NotDormant
+      undormant_first p marked active = record {
+        fault = record { places = p; marked = marked; active = active };
+        earlier = earlier;
+        sooner = sooner_undormant;
+      }
+
+      -- a call is marked and dormant, and too many are open
+      module _ (p : Places) (marked : IsMarkedAt run p (suc n)) (dormant : IsDormantAt p next.core (block_of next))
+          (many : length left ≡ 256) where
+        sooner_deep : (other : AbiKind) → order_of run other < 2 → ¬ HasFault run (suc n) other
+        sooner_deep NotLawful less f = no_unlawful f
+        sooner_deep NotDormant less f =
+            let same = one_place run (suc n) p f.places marked f.marked in
+            f.active (subst (λ (q : Places). IsDormantAt q next.core (block_of next)) same dormant)
+        sooner_deep TooDeep less f = absurd (omega (arith, less))
+
+        pub deep_first : IsFirstFault run (suc n) TooDeep
+        deep_first = record {
+          fault = record {
+            places = p;
+            marked = marked;
+            depth = length left;
+            others = count_open run (suc n) (suc n) left now passed;
+            many = omega (arith, many);
+          };
+          earlier = earlier;
+          sooner = sooner_deep;
+        }

@@ -1,0 +1,96 @@
+use Rattle.std.proofs.Common.{rules, ◌≡◌, ◌≢◌, ◌∙◌, sym, ap, refl, None, Some, suc}
+use Rattle.kernel_contexts.specs.Context.{state_of, config_of, image_of, thread_of}
+use Rattle.lone_runner.specs.Parting.{IsParting, parting_at}
+use Rattle.lone_runner.specs.Replayed.{place_of}
+use Rattle.lone_runner.specs.declared.fault.AloneFault.TheVariants.{Memory}
+use Rattle.lone_runner.specs.declared.fault.AloneFault.{AloneFault}
+use Rattle.lone_runner.proofs.Given.{passed_on}
+use Rattle.lone_runner.proofs.Ways.{way_parts, way_strays, none_of, some_of}
+use Rattle.abi_checker.specs.Checked.{states_of}
+use Rattle.abi_checker.specs.Following.{IsUnderWay}
+use Rattle.abi_checker.proofs.Followed.{followed_first, followed_on, somewhere_here, somewhere_next, told_on, checked_if}
+use Rattle.abi_checker.proofs.check.follow.Goals as goal
+
+pub turns-init : goal.turns-init
+turns-init c = record {
+  followed = followed_first c.args.count c.args.context.now c.args.ticket.now c.args.watch.now c.requires.start c.requires.calls
+      c.requires.returned;
+  held = c.requires.start.held;
+  runs = c.requires.start.runs;
+  same = record { config = refl; thread = refl; image = refl };
+}
+
+pub returns-in_err-stop-clause-parts : goal.returns-in_err-stop-clause-parts
+returns-in_err-stop-clause-parts c =
+    let h = c.turns.invariant in
+    let start = c.args.context.now in
+    let fault = c.in_err-stop.field-0.0 in
+    passed_on c.from_residual.result fault
+    (λ (f : AloneFault). f ≢ Memory
+    → IsParting (image_of start) (config_of start) (thread_of start) c.args.ticket.now.ahead c.args.count f)
+    c.from_residual.ensures.1
+    (λ told. way_strays _ _ _ _ _ c.turns.context c.turns.ticket h.same.config h.same.thread h.followed.way fault
+    (c.in_err-stop.ensures.astray told))
+
+pub returns-in-Some-clause-parts : goal.returns-in-Some-clause-parts
+returns-in-Some-clause-parts c = λ _.
+    let h = c.turns.invariant in
+    way_parts _ _ _ _ _ c.turns.context c.turns.ticket h.same.config h.same.thread h.followed.way _ c.in-Some.fault
+    c.in_ok-stop.ensures.turn (sym c.parting.ensures ∙ c.in-Some.is)
+
+pub tell-requires-clause-somewhere : goal.tell-requires-clause-somewhere
+tell-requires-clause-somewhere c =
+    let h = c.turns.invariant in
+    somewhere_here _ _ _ _ _ c.turns.context c.turns.ticket h.same.config h.same.thread c.turns.watch c.turns.found h.followed
+    c.count-before.result c.count-before.ensures c.count-before.type_inv
+
+pub answer-requires : goal.answer-requires
+answer-requires c =
+    let h = c.turns.invariant in
+    let e = c.in_ok-stop.ensures in
+    somewhere_next _ _ _ _ _ c.turns.context c.turns.ticket h.same.config h.same.thread c.turns.watch c.turns.found h.followed
+    c.make_turn.new.context c.make_turn.new.ticket _ c.tell.new.self c.in_ok-found.found c.count.result e.turn c.count.ensures
+    c.count.type_inv
+    (told_on _ _ _ _ _ c.turns.context c.turns.ticket h.same.config h.same.thread c.turns.watch c.turns.found h.followed
+    c.make_turn.new.context c.make_turn.new.ticket _ c.next_call-call.result c.call_made-past.result c.count-before.result
+    c.count.result c.tell.new.self c.in_ok-found.found e.turn c.next_call-call.ensures.some c.next_call-call.ensures.none
+    c.count-before.ensures c.count.ensures c.call_made-past.ensures c.in_ok-found.ensures)
+
+pub returns-then-is_some-clause-checked : goal.returns-then-is_some-clause-checked
+returns-then-is_some-clause-checked c =
+    let h = c.turns.invariant in
+    let e = c.in_ok-stop.ensures in
+    let told =
+    told_on _ _ _ _ _ c.turns.context c.turns.ticket h.same.config h.same.thread c.turns.watch c.turns.found h.followed
+    c.make_turn.new.context c.make_turn.new.ticket _ c.next_call-call.result c.call_made-past.result c.count-before.result
+    c.count.result c.tell.new.self c.in_ok-found.found e.turn c.next_call-call.ensures.some c.next_call-call.ensures.none
+    c.count-before.ensures c.count.ensures c.call_made-past.ensures c.in_ok-found.ensures in
+    checked_if _ _ _ _ _ c.turns.context c.turns.ticket h.same.config h.same.thread c.turns.watch c.turns.found h.followed
+    c.make_turn.new.context c.make_turn.new.ticket _ c.answer.result (some_of _ (sym c.is_some.ensures ∙ c.if-is_some.true)) e.turn
+    (sym c.parting.ensures ∙ c.in-None.is) (c.answer.ensures _ _ told)
+
+pub turns-preserved : goal.turns-preserved
+turns-preserved c =
+    let h = c.turns.invariant in
+    let e = c.in_ok-stop.ensures in
+    let new = c.make_turn.new.context in
+    let ticket = c.make_turn.new.ticket in
+    let none = none_of _ (sym c.is_some.ensures ∙ c.if-is_some.false) in
+    let told =
+    told_on _ _ _ _ _ c.turns.context c.turns.ticket h.same.config h.same.thread c.turns.watch c.turns.found h.followed new ticket _
+    c.next_call-call.result c.call_made-past.result c.count-before.result c.count.result c.tell.new.self c.in_ok-found.found e.turn
+    c.next_call-call.ensures.some c.next_call-call.ensures.none c.count-before.ensures c.count.ensures c.call_made-past.ensures
+    c.in_ok-found.ensures in
+    let on : parting_at c.args.count (place_of new ticket None) ≡ None =
+    ap (λ o. parting_at c.args.count (place_of new ticket o)) (sym none) ∙ sym c.parting.ensures ∙ c.in-None.is in
+    record {
+      followed = followed_on _ _ _ _ _ c.turns.context c.turns.ticket h.same.config h.same.thread c.turns.watch c.turns.found h.followed
+          new ticket c.tell.new.self c.in_ok-found.found (e.turn ∙ ap (place_of new ticket) none) e.journal on told;
+      held = e.ticket;
+      runs = e.stop ∙ none;
+      same = record {
+        config = e.same.config ∙ h.same.config;
+        thread = e.same.thread ∙ h.same.thread;
+        image = e.same.image ∙ h.same.image;
+      };
+    }

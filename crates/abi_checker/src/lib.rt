@@ -1,0 +1,17 @@
+//! Whether the callees of a recorded run keep the rules of the lazy saving scheme of ZA: `check_abi` goes
+//! through the states of one guest thread's run over its journal, and tells the first fault of a marked call,
+//! or how many of these returned.
+#![tactic(auto)]
+
+mod abi;
+mod bytes;
+mod check;
+mod laws;
+mod marks;
+mod open_call;
+mod permissions;
+mod watch;
+
+pub use abi::{Abi, AbiKind};
+pub use check::check_abi;
+pub use laws::one_answer;

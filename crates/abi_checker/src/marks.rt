@@ -1,0 +1,94 @@
+//! Marked calls.
+ghost use Rattle.std.specs.Prelude.{◌≡◌, ◌+◌, ◌%◌, ◌^◌, ℤ, true, Some, IfSome, IfNone};
+ghost use Rattle.sm_types.specs.declared.insn.Insn.TheVariants as insn;
+ghost use Rattle.sm_types.specs.declared.insn.Branch.TheVariants as branch;
+ghost use Rattle.sm_types.specs.Routines.{tail_words};
+ghost use Rattle.a64_encode.specs.Either.{instruction_of};
+ghost use Rattle.scalar_exec.specs.Branches as spec;
+ghost use Rattle.kernel_contexts.specs.Context.{state_of};
+ghost use Rattle.lazy_saving.specs.Dormant.{Places};
+ghost use Rattle.za_routines.specs.Places.{places_of};
+ghost use Rattle.abi_checker.specs.Marks as marks;
+ghost use Rattle.abi_checker.specs.Marks.{HasMark};
+ghost use Rattle.abi_checker.specs.Watching.{IsNextCall, IsNoCall};
+
+use crate::bytes::{are_words, word_in};
+use insn_decode::decode;
+use kernel_contexts::Context;
+use paged_memory::Pages;
+use scalar_exec::branch_target;
+use sm_types::routines::{DISABLE, RESTORE, call_tail, routines_are_listed};
+use sm_types::{Branch, Insn};
+use za_routines::RoutinePlaces;
+
+/// Whether a word is that of a BL or a BLR.
+#[inline]
+fn is_call_word(word: u32) -> bool
+    ensures { result ≡ marks.is_call_word word }
+{
+    word / 0x400_0000 == 0x25 || (word / 0x400 == 0x35_8FC0 && word % 32 == 0)
+}
+
+/// Where the call at PC comes back to, if a BL or a BLR stands there.
+#[inline]
+pub fn next_call(context: &Context) -> Option<u64>
+    ensures some { IfSome result (λ past. IsNextCall (state_of context.now) past) }
+    ensures none { IfNone result (IsNoCall (state_of context.now)) }
+{
+    let machine = context.machine();
+    let pc = machine.scalars.pc;
+    match machine.pages.fetch(pc) {
+        Some(word) if is_call_word(word) => Some(pc.wrapping_add(4)),
+        _ => None,
+    }
+}
+
+/// The address to which the word at an address calls, if it is that of a BL.
+fn target_of(word: u32, address: u64) -> Option<u64>
+    ensures some { IfSome result (λ target. (distance : ℤ)
+        × (instruction_of word ≡ Some (insn.Branch (branch.Unconditional true distance)))
+        × (target ≡ spec.branch_target address distance)) }
+    ensures none { IfNone result ((distance : ℤ)
+        → ¬ (instruction_of word ≡ Some (insn.Branch (branch.Unconditional true distance)))) }
+{
+    match decode(word) {
+        Some(Insn::Branch(Branch::Unconditional { link: true, words })) => {
+            Some(branch_target(address, words))
+        }
+        _ => None,
+    }
+}
+
+/// The words of the tail with that of its BL.
+fn tail_words(call: u32) -> [u32; 6]
+    ensures { result ≡ tail_words call }
+{
+    let mut words = call_tail(0);
+    words[4] = call;
+    words
+}
+
+/// The places of the tail at an address and of the routines that go with it, if they are there.
+pub fn mark_at(pages: &Pages, tail: u64) -> Option<RoutinePlaces>
+    ensures tail { IfSome result (λ places. places.tail ≡ tail) }
+    ensures some { IfSome result (λ places. HasMark pages.now.memory (places_of places)) }
+    ensures none { IfNone result ((p : Places) → p.tail ≡ tail → ¬ HasMark pages.now.memory p) }
+{
+    routines_are_listed();
+    let place = tail.wrapping_add(16);
+    let call = word_in(pages, place)?;
+    let restore = target_of(call, place)?;
+    let disable = restore.wrapping_sub(80);
+    if are_words(pages, tail, &tail_words(call))
+        && are_words(pages, restore, &RESTORE)
+        && are_words(pages, disable, &DISABLE)
+    {
+        Some(RoutinePlaces {
+            disable,
+            restore,
+            tail,
+        })
+    } else {
+        None
+    }
+}
