@@ -232,8 +232,8 @@ module _ (call : OpenCall) (s : State) (r : ProcessorState) (kept : IsKept call 
           h.za_on,
           h.pointer,
           to_call (saved_pieces r.memory d.bytes size s.core.bank.za kept.square d.ready.block.few d.ready.buffer.end
-          (readable_again s.core.memory r.memory (buffer_of d.bytes) (buffer_size size d.bytes) whole pages
-          d.ready.buffer.readable.there) h.pieces),
+              (readable_again s.core.memory r.memory (buffer_of d.bytes) (buffer_size size d.bytes) whole pages
+              d.ready.buffer.readable.there) h.pieces),
         )
 
   -- ---- there and back

@@ -252,8 +252,7 @@ impl OpenCall {
     {
         let machine = context.machine();
         if machine.za_on {
-            return machine.tpidr2 == self.block
-                && has_rows(&context.bank().za, self.za.as_slice());
+            return machine.tpidr2 == self.block && has_rows(&context.bank().za, self.za.as_slice());
         }
         machine.tpidr2 == 0 && self.is_saved(&machine.pages)
     }

@@ -26,9 +26,9 @@ returns-then-not-branch-clause-yes c = λ _.
     let unlawful : (s : State) → IsKept call s
     → ¬ IsLawful (places_of call.places) s.core (state_of c.args.context.now).core (block_of s) =
     λ s kept lawful.
-        let yes = (c.in_ok-is_lawful.ensures s kept).1 lawful in
-        let no = c.if-not-branch.true in
-        cc in (
+    let yes = (c.in_ok-is_lawful.ensures s kept).1 lawful in
+    let no = c.if-not-branch.true in
+    cc in (
       call,
       (c.calls.index, below, sym c.index-call.ensures),
       record { back = sym c.if-is_back.ensures; unlawful = unlawful },
