@@ -111,6 +111,7 @@ fn each_worker_with_lines_passes_once(rt: HostRuntime) {
     let vectors = read_vectors(alloc, FIVE, vl, svl)
         .ok()
         .expect(&rt, "a file of vectors");
+    assert!(rt; vectors.len() <= 2_048);
     let gate = PassGate {
         passes: four_zeros(),
         lines: four_zeros(),
@@ -133,6 +134,7 @@ fn any_number_of_workers_gives_the_same_lines(rt: HostRuntime) {
         .ok()
         .expect(&rt, "a file of vectors");
     for workers in [1, 2, 64] {
+        assert!(rt; vectors.len() <= 2_048);
         let lines = run_vectors(&rt, alloc, vectors.as_slice(), vl, svl, workers, &OpenGate)
             .ok()
             .expect(&rt, "memory");
