@@ -4,7 +4,7 @@
     tools/changed_files.py [PROGRAM] [--cases N] [--seed S] [--formats NAME,..]
 
 PROGRAM is the emulator; where it is not given it is what ./smemu runs. There are N cases of each format, 1,000 where it is not said, and the same seed makes the
-same cases. The formats are program, source, report, plan and script. The files are those of crates/smemu_rows/data, and the models those of
+same cases. The formats are program, source, report, plan, script and vectors. The files are those of crates/smemu_rows/data, and the models those of
 examples/ and of crates/smemu_rows, but of a source there is none: it is assembled, and then what comes is listed, or it is refused with a line. A case that
 differs is printed with its words and its changes, as the lists of crates/smemu_rows/data have them. The status is 1 where one differs.
 """
@@ -26,7 +26,7 @@ sys.dont_write_bytecode = True
 
 import emulator
 from altered import answer as replayed
-from changed import ADDRESSES, BYTES, NUMBERS, PLANS, RUN, SCRIPTS, Unknown, after, fields_of, listing, options_in, ran
+from changed import ADDRESSES, BYTES, NUMBERS, PLANS, RUN, SCRIPTS, VECTORS, Unknown, after, answered_vectors, fields_of, listing, options_in, ran
 from expected_debug import debug, listed
 from world import sim
 
@@ -111,7 +111,11 @@ def scripts(chance, texts):
     return ROW_WORDS[name], read(name), change_of_text, lambda script: debug(read(program), read(reported), int(number), script, texts)
 
 
-FORMATS = {"program": programs, "source": sources, "report": reports, "plan": plans, "script": scripts}
+def vectors(chance, texts):
+    return "vectors @", read(chance.choice([*VECTORS])), change_of_text, lambda file: answered_vectors(file, texts)
+
+
+FORMATS = {"program": programs, "source": sources, "report": reports, "plan": plans, "script": scripts, "vectors": vectors}
 
 
 def answered(smemu, words, changed, folder):

@@ -1,9 +1,10 @@
-"""The list data/changed.txt: program files, a source, plans and scripts, each with changes, and what the command is to answer to them.
+"""The list data/changed.txt: program files, a source, plans, scripts and vectors, each with changes, and what the command is to answer to them.
 
 A line without a tab begins a group: the file that is changed, and the words of the command, among which `@` is the changed file and each other word with a `.` a
 file. Each other line is a case: for each change the range of the file's bytes that is changed and the bytes that take its place in hexadecimal or `-`; the status;
 and past a tab the text with `|` for each line feed, or `#`, its length, and the first 16 digits of its SHA-256. What is at fault in a program file says
-examples/program_faults.py, in a source source_lines.py, in a plan world.py, and in a script examples/expected_debug.py, which share nothing with the emulator.
+examples/program_faults.py, in a source source_lines.py, in a plan world.py, in a script examples/expected_debug.py, and of vectors examples/expected_answers.py,
+which share nothing with the emulator.
 """
 import hashlib
 import random
@@ -11,6 +12,7 @@ import re
 import struct
 
 from expected import report
+from expected_answers import answers, read_vectors
 from expected_debug import debug
 from program_faults import Refused, loaded
 from world import sim
@@ -171,6 +173,14 @@ def shortened(text):
     return f"#{len(content)} {hashlib.sha256(content).hexdigest()[:16]}"
 
 
+def answered_vectors(file, texts):
+    """What `vectors` answers; nothing of words that no table has."""
+    vectors, fault = read_vectors(file, 128, 256)
+    if fault is None and any(f"{word:08x}" not in texts for word, _ in vectors):
+        raise Unknown
+    return answers(file)
+
+
 def case(content, changes, answer):
     """The line of a case."""
     status, text = answer(after(content, changes))
@@ -204,6 +214,8 @@ PLANS = {"plan-has-every-refusal.plan": 500, "plan-of-the-example.plan": 400, "p
          "plan-moves-on-in-a-handler.plan": 400, "plan-nested-is-moved-and-goes-on-to-the-end-at-128.plan": 350}
 SCRIPTS = {"debug-shows-all-in-the-middle.script": 500, "debug-goes-back-over-a-delivery.script": 500, "debug-nested-goes-over-each-return.script": 400,
            "debug-breaks-in-a-loop.script": 300, "debug-slices-as-za-is-filled.script": 300}
+# the files of vectors, at the lengths that are taken without options
+VECTORS = {"mixed-lines-128-256.vectors": 2000}
 
 
 def programs(contents, texts):
@@ -240,7 +252,12 @@ def scripts(rows, contents, texts):
         yield group(name, " ".join(words), contents[name], of_text(contents[name]), answer, most)
 
 
+def vectors(contents, texts):
+    for name, most in VECTORS.items():
+        yield group(name, "vectors @ --cores 2", contents[name], of_text(contents[name]), lambda file: answered_vectors(file, texts), most)
+
+
 def changed_list(rows, contents, texts, source):
     """The whole list; the group of a source is made beside it."""
-    groups = [*programs(contents, texts), source, *plans(rows, contents), *scripts(rows, contents, texts)]
+    groups = [*programs(contents, texts), source, *plans(rows, contents), *scripts(rows, contents, texts), *vectors(contents, texts)]
     return "".join(text for text, _ in groups)

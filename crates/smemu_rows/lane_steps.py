@@ -1,16 +1,16 @@
 #!/usr/bin/env python3
-"""Writes data/lane_steps.tsv: steps of outer products and of unpredicated operations on two vectors, at each vector length.
+"""Writes data/lane-steps-VL-SVL.vectors with their answers: steps of outer products and of unpredicated operations on two vectors, at each vector length.
 
     crates/smemu_rows/lane_steps.py
 
 These are the instructions that the emulator makes many lanes at a time. What each gives is reckoned here, element by element, over whole
-numbers; nothing is shared with the emulator. A line has the vector length in bits, that of Streaming SVE mode, the word with the state
+numbers; nothing is shared with the emulator. A step has the vector length in bits, that of Streaming SVE mode, the word with the state
 before it, and the state after it, in which all else is zero.
 """
-import pathlib
 import random
 
-HERE = pathlib.Path(__file__).resolve().parent
+from vector_files import write
+
 LENGTHS = (128, 256, 512, 1024, 2048)
 PC = "next pc=0000000000020004"
 # the sums of an outer product by the signs of Zn and Zm: 1 is without a sign
@@ -129,4 +129,4 @@ def lines():
 
 
 if __name__ == "__main__":
-    (HERE / "data" / "lane_steps.tsv").write_text("".join(text + "\n" for text in lines()))
+    write("lane-steps", lines())

@@ -5,7 +5,8 @@
 
 The reports come from examples/expected.py and the interpreters beside it, and those of several threads from world.py, which share nothing
 with the emulator; the refusals, and the listings but one, are written out here. The files real-*.elf come from real/make.sh, which runs an assembler and two linkers, and
-those of real/compiled from real/make_compiled.sh, which runs two compilers. What `run` and `sim` are to write is of version 2; for `replay` and `debug`
+those of real/compiled from real/make_compiled.sh, which runs two compilers. The files of vectors and their answers come from other tools, and from word_steps.py,
+lane_steps.py and vector_lines.py, which are run before this. What `run` and `sim` are to write is of version 2; for `replay` and `debug`
 there are reports of both versions.
 
 Where the gate runs smemu_rows it has data/ alone, and takes no links there. So a source of examples/ or real/ that is a row stands there too,
@@ -34,6 +35,8 @@ from nested import ADDS, masked_and_nested, masks
 from nested_replays import changed_programs, replays_of_nested, version_1_replays
 from source_lines import SOURCE, asm, changes as source_changes
 from sources import WITH_DATA, assemblies, lazy_savings, routine_lines, source_refusals
+from vector_files import vector_rows
+from vector_lines import altered_steps, lists as vector_lists
 from world_rows import world_rows
 
 AT_TEXT = (0x40, 1)
@@ -661,14 +664,14 @@ def told(sort, name):
         return "".join(f"{row.split()[0]} agrees\n" for row in text.splitlines())
     if sort == "failing":
         return "".join(f"{row.split()[0]} agrees where reads and writes fail\n" for row in text.splitlines())
+    cases = text.count("\t")
     if sort == "changed":
-        cases = text.count("\t")
         return f"{name}: {cases} of {cases} changed files agree\n"
     printed = text.count("\tprinted\t")
     return {"words": f"words and texts, both ways: {count} agree\n",
             "texts": f"texts: {printed} agree both ways, {count - printed} aliases are read\n",
             "no-row": f"words of no row: {count} agree\n", "faults": f"lines at fault: {count} agree\n",
-            "steps": f"{name}: {count} agree\n", "differing": f"altered steps: {count} differ, as they must\n"}[sort]
+            "differing": f"{name}: {cases} of {cases} cases have another text, as they must\n"}[sort]
 
 
 def words_of(options):
@@ -683,7 +686,7 @@ def words_of(options):
 # rows of each command, whose reads and writes fail in turn as well
 FAILING = ("answer.elf", "writes-33-and-then-to-2.elf", "answer.s", "listing-words.elf", "replay-answer-as-it-is.report", "replay-version-2-of-two-threads.report",
            "plan-of-the-example.plan", "plan-has-every-refusal.plan", "debug-shows-all-in-the-middle.script", "gen-77", "bench-1-on-1", "refused-empty.elf",
-           "source-unknown-first.s")
+           "source-unknown-first.s", "mixed-lines-128-256.vectors")
 
 
 def main():
@@ -708,6 +711,7 @@ def main():
     rows += lazy_rows()
     rows += workload_rows()
     rows += debug_rows(rows)
+    rows += vector_rows()
     framed, framed_reports, framed_list = frames()
     rows += [(f"{name}.elf", None, file, "", "") for name, file in framed.items()] + [(name, None, text.encode(), "", "") for name, text in framed_reports.items()]
     others = {name: file for name, _, file, _, _ in rows if name in ("debug-signals.report", *TWO_THREADS.values())}
@@ -715,8 +719,10 @@ def main():
     contents = {name: file for name, _, file, _, _ in rows}
     moved_lines = group("source-with-lines-that-move.s", "asm @", SOURCE, source_changes(), asm, 2000)
     changed = changed_list({name: words_of(options) for name, _, _, _, options in rows}, contents, listed(), moved_lines)
+    vector_lines, altered_vectors = vector_lists(contents), altered_steps()
     for old in [*data.glob("*.txt"), *data.glob("*.s"), *data.glob("*.report"), *data.glob("*.plan"), *data.glob("*.script")]:
-        old.unlink()
+        if not old.name.endswith(".vectors.txt"):
+            old.unlink()
     for old in data.glob("*.elf"):
         if not old.name.startswith("real-"):
             old.unlink()
@@ -728,10 +734,10 @@ def main():
     rows = [row for row in rows if row[1] is not None]
     (data / "rows.txt").write_text("".join(f"{name} {status} {words_of(options)}\n" for name, status, _, _, options in rows))
     (data / "failing.txt").write_text("".join(f"{name} {status} {words_of(options)}\n" for name, status, _, _, options in rows if name in FAILING))
-    for name, text in ("altered", altered), ("changed", changed), ("frames", framed_list):
+    for name, text in ("altered", altered), ("changed", changed), ("frames", framed_list), ("vector_lines", vector_lines), ("altered_steps", altered_vectors):
         (data / f"{name}.txt").write_text(text)
     (HERE / "stdout").write_text("".join(told(*argument.split("=")) for argument in (HERE / "args").read_text().split()))
-    cases = (altered + changed + framed_list).count("\t")
+    cases = (altered + changed + framed_list + vector_lines).count("\t")
     print(f"{len(rows)} rows, {cases} changed files")
 
 

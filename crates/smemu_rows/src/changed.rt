@@ -8,6 +8,8 @@
 //! are `-`, or in hexadecimal, with `+` between parts, each with `*` and how many times it stands there where
 //! that is not once. The text is also said as `#`, its length, and the first 16 digits of its SHA-256; and
 //! `block` is the block of the thread, the last word, in the changed report.
+//!
+//! There are lists of such cases too of which each is to come to its status and to another text.
 
 use crate::files::{add_named, read_file, words_in};
 use anyhow::{Context, Result, anyhow};
@@ -134,13 +136,24 @@ fn is_text(alloc: Global, out: &[u8], file: &[u8], thread: &str, text: &str) -> 
     Some(out == wanted.as_bytes())
 }
 
-/// Tells whether the case of these parts of a line agrees; none where there is no such case, or no memory.
-fn agrees<R: Files + AllocGlobal + Threads + Wait + Sync>(
+/// What a case came to.
+#[derive(Clone, Copy, PartialEq, Eq)]
+enum Outcome {
+    /// Its status and its text.
+    Agrees,
+    /// Its status, and another text.
+    OtherText,
+    /// Another status.
+    OtherStatus,
+}
+
+/// What the case of these parts of a line comes to; none where there is no such case, or no memory.
+fn outcome_of<R: Files + AllocGlobal + Threads + Wait + Sync>(
     rt: &R,
     group: &Option<Group>,
     case: &str,
     text: &str,
-) -> Option<bool> {
+) -> Option<Outcome> {
     let alloc = rt.alloc();
     let group = group.as_ref()?;
     let (file, status) = changed_file(alloc, group.base.as_slice(), case)?;
@@ -152,7 +165,38 @@ fn agrees<R: Files + AllocGlobal + Threads + Wait + Sync>(
     let ended = smemu_main(rt, alloc, words, &mut files, &mut out, &OpenGate);
     let thread = words.last()?.as_str();
     let same = is_text(alloc, out.bytes(), file.as_slice(), thread, text)?;
-    Some(ended.code() == status && same)
+    Some(if ended.code() != status {
+        Outcome::OtherStatus
+    } else if same {
+        Outcome::Agrees
+    } else {
+        Outcome::OtherText
+    })
+}
+
+/// Shows the cases of the list that do not come to what is wanted of all, and counts those that do, and all.
+fn count_cases<R: Files + Print + AllocGlobal + Threads + Wait + Sync>(
+    rt: &R,
+    name: &str,
+    list: &str,
+    wanted: Outcome,
+) -> Result<(u32, u32)> {
+    let mut group: Option<Group> = None;
+    let mut cases = 0u32;
+    let mut right = 0u32;
+    for line in list.lines() {
+        let Some((case, text)) = line.split_once('\t') else {
+            group = Some(group_of(rt, line)?);
+            continue;
+        };
+        cases = cases.saturating_add(1);
+        if outcome_of(rt, &group, case, text) == Some(wanted) {
+            right = right.saturating_add(1);
+        } else {
+            println!(rt; "{name}: {line} FAILS")?;
+        }
+    }
+    Ok((right, cases))
 }
 
 /// Compares the cases of the list, shows those that differ, and counts those that agree.
@@ -161,21 +205,18 @@ pub fn compare_changed<R: Files + Print + AllocGlobal + Threads + Wait + Sync>(
     name: &str,
     list: &str,
 ) -> Result<()> {
-    let mut group: Option<Group> = None;
-    let mut cases = 0u32;
-    let mut agreeing = 0u32;
-    for line in list.lines() {
-        let Some((case, text)) = line.split_once('\t') else {
-            group = Some(group_of(rt, line)?);
-            continue;
-        };
-        cases = cases.saturating_add(1);
-        if agrees(rt, &group, case, text) == Some(true) {
-            agreeing = agreeing.saturating_add(1);
-        } else {
-            println!(rt; "{name}: {line} DIFFERS")?;
-        }
-    }
-    println!(rt; "{name}: {agreeing} of {cases} changed files agree")?;
+    let (right, cases) = count_cases(rt, name, list, Outcome::Agrees)?;
+    println!(rt; "{name}: {right} of {cases} changed files agree")?;
+    Ok(())
+}
+
+/// Shows the cases of the list that do not come to their status and another text, and counts those that do.
+pub fn compare_differing<R: Files + Print + AllocGlobal + Threads + Wait + Sync>(
+    rt: &R,
+    name: &str,
+    list: &str,
+) -> Result<()> {
+    let (right, cases) = count_cases(rt, name, list, Outcome::OtherText)?;
+    println!(rt; "{name}: {right} of {cases} cases have another text, as they must")?;
     Ok(())
 }

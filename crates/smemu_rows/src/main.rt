@@ -8,8 +8,7 @@
 //! - `texts`: words with texts from which they are read, and that are printed exactly where the line says so;
 //! - `no-row`: words that mean none;
 //! - `faults`: lines of sources that are refused, each with its fault;
-//! - `steps`: what a step of an instruction gives, with all registers and all of the data;
-//! - `differing`: steps that were altered by hand, each of which must differ.
+//! - `differing`: files with changes, and texts that were altered by hand, which the command must not answer.
 //!
 //! A line that cannot be read is shown as one that differs.
 #![tactic(auto)]
@@ -17,20 +16,14 @@
 mod changed;
 mod failing;
 mod faults;
-mod fields;
 mod files;
-mod outcome;
-mod pages;
 mod rows;
-mod state;
-mod steps;
 mod words;
 
-use crate::changed::compare_changed;
+use crate::changed::{compare_changed, compare_differing};
 use crate::failing::compare_failing;
 use crate::faults::check_faults;
 use crate::rows::compare_rows;
-use crate::steps::{check_differing, check_steps};
 use crate::words::{check_no_row, check_texts, check_words};
 use anyhow::{Context, Result, anyhow};
 use std::rt::Files;
@@ -54,8 +47,7 @@ fn compare<R: Files + Print + AllocGlobal + Threads + Wait + Sync>(
         "texts" => check_texts(rt, text),
         "no-row" => check_no_row(rt, text),
         "faults" => check_faults(rt, text),
-        "steps" => check_steps(rt, rt.alloc(), name, text),
-        "differing" => check_differing(rt, rt.alloc(), text),
+        "differing" => compare_differing(rt, name, text),
         _ => Err(anyhow!("no sort of lines: {sort}")),
     }
 }
