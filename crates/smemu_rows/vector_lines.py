@@ -12,8 +12,8 @@ import random
 
 from vector_files import DATA, put
 
-from changed import case, shortened
-from expected_answers import DONE, MOST_BYTES, MOST_LINES, PAGE, answers, read_vectors
+from changed import case
+from expected_answers import DONE, MOST_BYTES, PAGE, answers, read_vectors
 
 NOP, VALUE = "d503201f", "0123456789abcdef"
 PAIRS = ((128, 256), (256, 512), (512, 1024), (1024, 2048), (2048, 128))
@@ -176,15 +176,11 @@ def counted_list(contents):
 
 
 def longest_list():
-    """Files with as many bytes as there may be: in lines of vectors, and in more lines than there may be; and with one byte more, where nothing else is looked at."""
-    vectors, count = f"d4200000 tpidr={VALUE} svcr=3" + "".join(f" za{n}={'5a' * 256}" for n in range(50)), MOST_BYTES // MOST_LINES
-    vectors += f" m={'5a' * ((count - len(vectors) - 4) // 2)}"
-    brk, nop = f"{vectors}\n".encode(), f"{NOP} m={'5a' * 2042}\n".encode()
-    assert len(brk) == count and len(nop) == PAGE and answers(brk, 128, 2048) == (DONE, "raise breakpoint 0\n")
-    given = answers(nop * (MOST_BYTES // PAGE))
-    assert given == (14, "bad vectors: line 2049\n")
-    yield f"{NONE} vectors @ --svl 2048 --cores 2\n0 0 {brk.hex()}*{MOST_LINES} {DONE}\t{shortened(MOST_LINES * 'raise breakpoint 0'.join(('', chr(10))))}\n"
-    yield f"{NONE} vectors @\n0 0 {nop.hex()}*{MOST_BYTES // PAGE} 14\tbad vectors: line 2049|\n0 0 {nop.hex()}*{MOST_BYTES // PAGE}+0a 14\tbad vectors: toolong|\n"
+    """A file with as many bytes as there may be, whose first line is at fault, and one with one byte more, where nothing else is looked at."""
+    piece = b"\n" * PAGE
+    for more, line in (b"", "line 1"), (b"\n", "toolong"):
+        assert answers(piece * (MOST_BYTES // PAGE) + more) == (14, f"bad vectors: {line}\n")
+        yield f"{NONE} vectors @\n0 0 {piece.hex()}*{MOST_BYTES // PAGE}{'+0a' * len(more)} 14\tbad vectors: {line}|\n"
 
 
 def lists(contents):
