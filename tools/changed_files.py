@@ -80,6 +80,15 @@ def change_of_fields(chance, content):
     return at, at + size, (value % top).to_bytes(size, "little")
 
 
+def change_of_vectors(chance, content):
+    """A digit of a value, or another change."""
+    found = [*re.finditer(rb"(?<==)[0-9a-f]+", content)]
+    if not found or chance.randrange(3) == 0:
+        return change_of_text(chance, content)
+    at = chance.randrange(*chance.choice(found).span())
+    return at, at + 1, b"%x" % chance.choice((0, 1, 2, 3, chance.randrange(16)))
+
+
 # ---- formats: the words of a command, the file that is changed, how it is changed, and the answer
 
 
@@ -112,7 +121,7 @@ def scripts(chance, texts):
 
 
 def vectors(chance, texts):
-    return "vectors @", read(chance.choice([*VECTORS])), change_of_text, lambda file: answered_vectors(file, texts)
+    return "vectors @", read(chance.choice([*VECTORS])), change_of_vectors, lambda file: answered_vectors(file, texts)
 
 
 FORMATS = {"program": programs, "source": sources, "report": reports, "plan": plans, "script": scripts, "vectors": vectors}

@@ -69,6 +69,20 @@ def of_text(content):
         yield start, end, line[:-1] + b"\r\n"
 
 
+def of_vectors(content):
+    """Changes of which most leave vectors: a digit of a value, a field or a line left out, a line doubled, and lines in another order."""
+    for field in re.finditer(rb" ([a-z0-9]+)=([0-9a-f]+)", content):
+        digits = {b"nzcv": b"01", b"svcr": b"0123"}.get(field[1], b"0123456789abcdef")
+        yield from of_bytes(content, range(*field.span(2)), lambda _: digits)
+        yield *field.span(), b""
+    lines = content.splitlines(keepends=True)
+    places = [sum(map(len, lines[:k])) for k in range(len(lines) + 1)]
+    for at, end, line in zip(places, places[1:], lines):
+        yield at, end, b""
+        yield at, end, line * 2
+        yield from ((other, other, line) for other in places)
+
+
 HEADER = "16s2H" "I" "3Q" "I" "6H"
 TABLES = {"program": "2I6Q", "section": "2I4Q2I2Q", "symbol": "I2BH2Q"}
 
@@ -214,8 +228,8 @@ PLANS = {"plan-has-every-refusal.plan": 500, "plan-of-the-example.plan": 400, "p
          "plan-moves-on-in-a-handler.plan": 400, "plan-nested-is-moved-and-goes-on-to-the-end-at-128.plan": 350}
 SCRIPTS = {"debug-shows-all-in-the-middle.script": 500, "debug-goes-back-over-a-delivery.script": 500, "debug-nested-goes-over-each-return.script": 400,
            "debug-breaks-in-a-loop.script": 300, "debug-slices-as-za-is-filled.script": 300}
-# the files of vectors, at the lengths that are taken without options
-VECTORS = {"mixed-lines-128-256.vectors": 2000}
+# the files of vectors, at the lengths that are taken without options, with the number of cases of each sort of changes
+VECTORS = {"mixed-lines-128-256.vectors": {of_text: 800, of_vectors: 1200}}
 
 
 def programs(contents, texts):
@@ -253,8 +267,9 @@ def scripts(rows, contents, texts):
 
 
 def vectors(contents, texts):
-    for name, most in VECTORS.items():
-        yield group(name, "vectors @ --cores 2", contents[name], of_text(contents[name]), lambda file: answered_vectors(file, texts), most)
+    for name, sorts in VECTORS.items():
+        for changes, most in sorts.items():
+            yield group(name, "vectors @ --cores 2", contents[name], changes(contents[name]), lambda file: answered_vectors(file, texts), most)
 
 
 def changed_list(rows, contents, texts, source):

@@ -19,12 +19,13 @@ NOP, VALUE = "d503201f", "0123456789abcdef"
 PAIRS = ((128, 256), (256, 512), (512, 1024), (1024, 2048), (2048, 128))
 # files without lines, with the most lines, and with three that are replaced in turn
 NONE, MOST, THREE, MIXED = "no-lines-128-128.vectors", "most-lines-128-128.vectors", "three-lines-128-256.vectors", "mixed-lines-128-256.vectors"
+# words that the tables have: adds, ldr, svc, hint, zero, and one of no row
 MIXED_LINES = f"""\
-ab010020 x1=8000000000000000
-f94003e2 x2={VALUE} sp=0000000000010000 nzcv=0110 tpidr=0000000000000001 tpidr2=00000000000000ff svcr=0 z3={"5a" * 16} m=0011223344556677
+b13ac92b x9=7fffffffffffffff
+f94003fc x28={VALUE} sp=0000000000010000 nzcv=0110 tpidr=0000000000000001 tpidr2=00000000000000ff svcr=0 z3={"5a" * 16} m=0011223344556677
 d4000001 x30=00000000000000aa nzcv=1000
-{NOP} x0={VALUE} x9={VALUE} x10={VALUE} svcr=3 z0={"12" * 32} z31={"34" * 32} p0=01020304 p15=50607080 ffr=ffffffff za0={"9a" * 32} za31={"bc" * 32} m=01
-c0080055 svcr=2 za1={"de" * 32} za6={"0f" * 32}
+d5032fff x0={VALUE} x9={VALUE} x10={VALUE} svcr=3 z0={"12" * 32} z31={"34" * 32} p0=01020304 p15=50607080 ffr=ffffffff za0={"9a" * 32} za31={"bc" * 32} m=01
+c00800a5 svcr=2 za1={"de" * 32} za5={"0f" * 32}
 1e604000 sp=ffffffffffffffff
 """
 
