@@ -42,6 +42,7 @@ watched_first run watch e z =
     record {
       none = λ m kind within.
           let zero : m ≡ 0 = omega (arith, within) in subst (λ i. ¬ HasFault run i kind) (sym zero) (none_first run kind);
+      lawful = λ c m p within r. let after = r.after in absurd (omega (arith, within, after));
       walked = inr (inr ((λ p h. h), (e, z)));
       few = omega (arith, short);
       counted = omega (arith, short, z);

@@ -14,7 +14,7 @@ use Rattle.lone_runner.proofs.Partings.{compared}
 use Rattle.abi_checker.specs.Marks.{IsCall, IsMarkedCall, IsBackFrom, past_call}
 use Rattle.abi_checker.specs.Numbers.{NumberOf}
 use Rattle.abi_checker.specs.Faults.{IsMarkedAt, IsReturn, IsOpen, HasFault, IsFirstFault, ReturnsUnlawfully, CallsUndormant}
-use Rattle.abi_checker.specs.Faults.{CallsTooDeep, block_of, order_of}
+use Rattle.abi_checker.specs.Faults.{CallsTooDeep, AreLawful, block_of, order_of}
 use Rattle.abi_checker.specs.Keeping.{IsKept}
 use Rattle.abi_checker.specs.Returning.{is_back, IsFine, IsUnlawful}
 use Rattle.abi_checker.specs.Watching.{IsHeld, IsWalked, IsMarkedPast, IsPast}
@@ -107,20 +107,33 @@ module _ (run : ℕ → State) (n : ℕ) (calls : List OpenCall) (returned : ℕ
       }
 
   module _ (fine : All (IsFine next) calls) where
-    no_unlawful : ¬ ReturnsUnlawfully run (suc n)
-    no_unlawful f =
-        let still : IsOpen run n f.call = record {
-          places = f.places;
-          marked = f.return.marked;
-          never = λ m after by. f.return.first m after (omega (arith, by));
+    lawful_here : (c : ℕ) (p : Places) → IsReturn run p c (suc n) → IsLawful p (run c).core next.core (block_of (run c))
+    lawful_here c p r =
+        let still : IsOpen run n c = record {
+          places = p;
+          marked = r.marked;
+          never = λ m after by. r.first m after (omega (arith, by));
         } in
-        let found = in_list run n (suc n) calls returned f.call walked f.return.after still in
-        let same = one_place run f.call (places_of found.0.places) f.places found.2.marked f.return.marked in
-        let back = subst (λ (p : Places). IsBackFrom p (run f.call) next) (sym same) f.return.back in
+        let found = in_list run n (suc n) calls returned c walked r.after still in
+        let same = one_place run c (places_of found.0.places) p found.2.marked r.marked in
+        let back = subst (λ (q : Places). IsBackFrom q (run c) next) (sym same) r.back in
         let lawful =
-        All-contains (IsFine next) calls found.0 fine found.1 (back_tells (run f.call) next found.0 found.2.kept back)
-        (run f.call) found.2.kept in
-        f.unlawful (subst (λ (p : Places). IsLawful p (run f.call).core next.core (block_of (run f.call))) same lawful)
+        All-contains (IsFine next) calls found.0 fine found.1 (back_tells (run c) next found.0 found.2.kept back) (run c)
+        found.2.kept in
+        subst (λ (q : Places). IsLawful q (run c).core next.core (block_of (run c))) same lawful
+
+    pub lawful_on : AreLawful run n → AreLawful run (suc n)
+    lawful_on lawful c m p within r =
+        elim (compared m (suc n)) as (λ _. IsLawful p (run c).core (run m).core (block_of (run c))) [
+          | inl less ↦ lawful c m p (omega (arith, less)) r
+          | inr (inl same) ↦
+              subst (λ i. IsLawful p (run c).core (run i).core (block_of (run c))) (sym same)
+              (lawful_here c p (subst (λ i. IsReturn run p c i) same r))
+          | inr (inr more) ↦ absurd (omega (arith, within, more))
+        ]
+
+    no_unlawful : ¬ ReturnsUnlawfully run (suc n)
+    no_unlawful f = f.unlawful (lawful_here f.call f.places f.return)
 
     stays : (k : ℕ) (call : OpenCall) → IsHeld run n k call → not (is_back next call) ≡ true
         → ¬ IsBackFrom (places_of call.places) (run k) next

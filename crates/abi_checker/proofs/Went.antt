@@ -19,7 +19,7 @@ use Rattle.abi_checker.specs.declared.abi.AbiKind.{AbiKind}
 use Rattle.abi_checker.specs.declared.abi.AbiKind.TheVariants.{NotDormant, NotLawful, TooDeep}
 use Rattle.abi_checker.specs.declared.open_call.OpenCall.{OpenCall}
 use Rattle.abi_checker.specs.declared.watch.Watch.{Watch}
-use Rattle.abi_checker.proofs.Next.{unlawful_first, passed, no_more, none_unmarked, walked_unmarked, none_added, walked_added}
+use Rattle.abi_checker.proofs.Next.{unlawful_first, lawful_on, passed, no_more, none_unmarked, walked_unmarked, none_added, walked_added}
 use Rattle.abi_checker.proofs.Next.{undormant_first, deep_first}
 use Rattle.abi_checker.proofs.Settled.{same_at}
 use Rattle.abi_checker.proofs.Walk.{of_list}
@@ -56,6 +56,7 @@ module _ (run : ℕ → State) (n : ℕ) (old : Watch) (s : State) (w : IsWatche
         record {
           none = none_unmarked run n old.calls.items old.returned w.none w.walked here mid.calls.items mid.returned gone all
               unmarked;
+          lawful = lawful_on run n old.calls.items old.returned w.none w.walked here w.lawful;
           walked = subst (λ (l : List OpenCall). IsWalked run (suc n) (suc (suc n)) l new.returned) (sym same)
               (subst (λ i. IsWalked run (suc n) (suc (suc n)) mid.calls.items i) (sym told)
               (walked_unmarked run n old.calls.items old.returned w.none w.walked here mid.calls.items mid.returned gone all
@@ -93,6 +94,7 @@ module _ (run : ℕ → State) (n : ℕ) (old : Watch) (s : State) (w : IsWatche
           record {
             none = none_added run n old.calls.items old.returned w.none w.walked here mid.calls.items mid.returned gone all h.last
                 marked kept few;
+            lawful = lawful_on run n old.calls.items old.returned w.none w.walked here w.lawful;
             walked = subst (λ (l : List OpenCall). IsWalked run (suc n) (suc (suc n)) l new.returned) (sym h.calls)
                 (subst (λ i. IsWalked run (suc n) (suc (suc n)) (mid.calls.items ++ h.last ∷ []) i) (sym told)
                 (walked_added run n old.calls.items old.returned w.none w.walked here mid.calls.items mid.returned gone all h.last

@@ -44,6 +44,11 @@ module _ (run : ℕ → State) where
     pub marked : IsMarkedAt places c
     pub never : (m : ℕ) → c < m → m ≤ n → ¬ IsBackFrom places (run c) (run m)
 
+  -- each call that has returned by state n had a lawful callee
+  abbrev pub AreLawful : ℕ → Type 0
+  AreLawful n =
+      (c m : ℕ) (p : Places) → m ≤ n → IsReturn p c m → IsLawful p (run c).core (run m).core (block_of (run c))
+
   -- ---- faults
 
   -- state n is the return of a call whose callee was not lawful

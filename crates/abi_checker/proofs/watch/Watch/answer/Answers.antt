@@ -11,6 +11,7 @@ faultless : (run : ℕ → State) (n : ℕ) (watch : Watch) → IsWatched run n 
     → IsFaultless run n watch.returned (length watch.calls.items)
 faultless run n watch w = record {
   none = w.none;
+  lawful = w.lawful;
   back = count_back run n (suc n) watch.calls.items watch.returned w.walked;
   out = count_open run n (suc n) watch.calls.items watch.returned w.walked;
 }
