@@ -14,7 +14,7 @@ use Rattle.cmd_words.specs.declared.form.Operand.TheVariants.{Name}
 use Rattle.cmd_words.specs.declared.setting.Setting.{Setting}
 use Rattle.cmd_words.specs.declared.setting.Setting.TheVariants.{Vl, Svl, Slice, Budget, Threads, Cores}
 use Rattle.cmd_words.specs.declared.verb.Verb.{Verb}
-use Rattle.cmd_words.specs.declared.verb.Verb.TheVariants.{Run, Sim, Dis, Asm, Replay, Debug, Vectors, Gen, Bench}
+use Rattle.cmd_words.specs.declared.verb.Verb.TheVariants.{Run, Sim, Dis, Asm, Replay, Debug, AbiCheck, Vectors, Gen, Bench}
 use Rattle.cmd_words.specs.declared.verb.Verb.TheVariants.{Help, Version}
 use Rattle.sm_types.proofs.Places.{none-find, find-passes}
 use Rattle.cmd_words.proofs.Faults.{fault_at-operand, get_past}
@@ -154,6 +154,7 @@ fixed_of Dis setting words e = refl
 fixed_of Asm setting words e = refl
 fixed_of Replay setting words e = refl
 fixed_of Debug setting words e = refl
+fixed_of AbiCheck setting words e = refl
 fixed_of Vectors Vl words e = absurd (found Vl e)
 fixed_of Vectors Svl words e = absurd (found Svl e)
 fixed_of Vectors Slice words e = refl

@@ -10,8 +10,8 @@ use Rattle.cmd_words.specs.declared.command.Command.TheVariants as command
 use Rattle.cmd_words.specs.declared.command.WordsFault.{WordsFault}
 use Rattle.cmd_words.specs.declared.command.WordsFault.TheVariants as fault
 use Rattle.cmd_words.specs.declared.verb.Verb.{Verb}
-use Rattle.cmd_words.specs.declared.verb.Verb.TheVariants.{Run, Sim, Dis, Asm, Replay, Debug, Vectors, Gen}
-use Rattle.cmd_words.specs.declared.verb.Verb.TheVariants.{Bench, Help, Version}
+use Rattle.cmd_words.specs.declared.verb.Verb.TheVariants.{Run, Sim, Dis, Asm, Replay, Debug, AbiCheck, Vectors}
+use Rattle.cmd_words.specs.declared.verb.Verb.TheVariants.{Gen, Bench, Help, Version}
 use Rattle.cmd_words.specs.declared.setting.Setting.TheVariants.{Cores}
 
 abbrev pub asking : Verb → List Argument → Numbers → Request
@@ -34,6 +34,10 @@ request_of (command.Debug program report thread script) =
     (NameSaid (string_bytes program) ∷ NameSaid (string_bytes report) ∷ ThreadSaid thread
     ∷ NameSaid (string_bytes script) ∷ [])
     default_options
+request_of (command.AbiCheck program report thread) =
+    asking AbiCheck
+    (NameSaid (string_bytes program) ∷ NameSaid (string_bytes report) ∷ ThreadSaid thread ∷ [])
+    default_options
 request_of (command.Vectors file config) =
     asking Vectors (NameSaid (string_bytes file) ∷ []) (numbers_of config)
 request_of (command.Gen number) = asking Gen (WorkloadSaid number ∷ []) default_options
@@ -50,6 +54,7 @@ IsInRange (command.Dis program) = Unit {0}
 IsInRange (command.Asm source) = Unit {0}
 IsInRange (command.Replay program report thread) = thread < 32
 IsInRange (command.Debug program report thread script) = thread < 32
+IsInRange (command.AbiCheck program report thread) = thread < 32
 IsInRange (command.Vectors file config) = Unit {0}
 IsInRange (command.Gen number) = (1 ≤ number) × (number ≤ 20000)
 IsInRange (command.Bench number cores) = (1 ≤ number) × (number ≤ 20000) × (1 ≤ cores) × (cores ≤ 64)

@@ -5,8 +5,8 @@ use Rattle.cmd_words.specs.declared.form.Operand.TheVariants.{Name, Thread, Work
 use Rattle.cmd_words.specs.declared.setting.Setting.{Setting}
 use Rattle.cmd_words.specs.declared.setting.Setting.TheVariants.{Vl, Svl, Slice, Budget, Threads, Cores}
 use Rattle.cmd_words.specs.declared.verb.Verb.{Verb}
-use Rattle.cmd_words.specs.declared.verb.Verb.TheVariants.{Run, Sim, Dis, Asm, Replay, Debug, Vectors, Gen}
-use Rattle.cmd_words.specs.declared.verb.Verb.TheVariants.{Bench, Help, Version}
+use Rattle.cmd_words.specs.declared.verb.Verb.TheVariants.{Run, Sim, Dis, Asm, Replay, Debug, AbiCheck, Vectors}
+use Rattle.cmd_words.specs.declared.verb.Verb.TheVariants.{Gen, Bench, Help, Version}
 
 -- what must stand after a command, in order, and the options that may follow then, each with its value as the
 -- next word
@@ -30,6 +30,7 @@ form_of Dis = record { operands = Name ∷ []; options = [] }
 form_of Asm = record { operands = Name ∷ []; options = [] }
 form_of Replay = record { operands = Name ∷ Name ∷ Thread ∷ []; options = [] }
 form_of Debug = record { operands = Name ∷ Name ∷ Thread ∷ Name ∷ []; options = [] }
+form_of AbiCheck = record { operands = Name ∷ Name ∷ Thread ∷ []; options = [] }
 form_of Vectors = record { operands = Name ∷ []; options = vector_options }
 form_of Gen = record { operands = Workload ∷ []; options = [] }
 form_of Bench = record { operands = Workload ∷ []; options = Cores ∷ [] }

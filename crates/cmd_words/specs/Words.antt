@@ -18,8 +18,8 @@ use Rattle.cmd_words.specs.declared.form.Operand.{Operand}
 use Rattle.cmd_words.specs.declared.form.Operand.TheVariants.{Name, Thread, Workload}
 use Rattle.cmd_words.specs.declared.setting.Setting.{Setting}
 use Rattle.cmd_words.specs.declared.verb.Verb.{Verb}
-use Rattle.cmd_words.specs.declared.verb.Verb.TheVariants.{Run, Sim, Dis, Asm, Replay, Debug, Vectors, Gen}
-use Rattle.cmd_words.specs.declared.verb.Verb.TheVariants.{Bench, Help, Version}
+use Rattle.cmd_words.specs.declared.verb.Verb.TheVariants.{Run, Sim, Dis, Asm, Replay, Debug, AbiCheck, Vectors}
+use Rattle.cmd_words.specs.declared.verb.Verb.TheVariants.{Gen, Bench, Help, Version}
 
 -- the command of a word
 unfoldable pub verb_of : List ℕ → Option Verb
@@ -30,12 +30,13 @@ verb_of word =
     else (if bytes_eq word (codes "asm") then Some Asm
     else (if bytes_eq word (codes "replay") then Some Replay
     else (if bytes_eq word (codes "debug") then Some Debug
+    else (if bytes_eq word (codes "abi-check") then Some AbiCheck
     else (if bytes_eq word (codes "vectors") then Some Vectors
     else (if bytes_eq word (codes "gen") then Some Gen
     else (if bytes_eq word (codes "bench") then Some Bench
     else (if bytes_eq word (codes "--help") then Some Help
     else (if bytes_eq word (codes "--version") then Some Version
-    else None))))))))))
+    else None)))))))))))
 
 -- the form of the command that the first word is
 abbrev pub form_asked : List (List ℕ) → Option Form

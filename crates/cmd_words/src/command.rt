@@ -38,6 +38,12 @@ pub enum Command {
         thread: u32,
         script: String,
     },
+    /// Checks the marked calls of one thread of a report, on the program file of that name.
+    AbiCheck {
+        program: String,
+        report: String,
+        thread: u32,
+    },
     /// Runs the single instructions of the file of vectors of that name, for the vector lengths of the
     /// options, by as many workers as they say cores.
     Vectors {

@@ -56,7 +56,7 @@ pub fn form_of(verb: Verb) -> Form
             operands: &[Operand::Name],
             options: &[],
         },
-        Verb::Replay => Form {
+        Verb::Replay | Verb::AbiCheck => Form {
             operands: &[Operand::Name, Operand::Name, Operand::Thread],
             options: &[],
         },

@@ -11,6 +11,7 @@ pub enum Verb {
     Asm,
     Replay,
     Debug,
+    AbiCheck,
     Vectors,
     Gen,
     Bench,
@@ -35,6 +36,8 @@ pub fn verb_of(word: &str) -> Option<Verb>
         Some(Verb::Replay)
     } else if word == "debug" {
         Some(Verb::Debug)
+    } else if word == "abi-check" {
+        Some(Verb::AbiCheck)
     } else if word == "vectors" {
         Some(Verb::Vectors)
     } else if word == "gen" {

@@ -263,6 +263,11 @@ fn make_command(
             thread: thread_at(words, 3),
             script: name_at(alloc, words, 4)?,
         }),
+        Verb::AbiCheck => Ok(Command::AbiCheck {
+            program: name_at(alloc, words, 1)?,
+            report: name_at(alloc, words, 2)?,
+            thread: thread_at(words, 3),
+        }),
         Verb::Vectors => Ok(Command::Vectors {
             file: name_at(alloc, words, 1)?,
             config: given.config(),

@@ -4,5 +4,6 @@ pub mod FaultLines
 pub mod SourceLines
 pub mod ReportLines
 pub mod PlanLines
+pub mod LawLines
 pub mod VectorsLines
 pub mod Foreign

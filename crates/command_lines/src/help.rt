@@ -19,6 +19,8 @@ commands:
                 runs thread THREAD of the report REPORT of PROGRAM alone and writes its block
   debug PROGRAM REPORT THREAD SCRIPT
                 runs that thread alone, and writes what the commands of SCRIPT show of it
+  abi-check PROGRAM REPORT THREAD
+                runs that thread alone and checks the callee of each marked call
   vectors FILE  runs the single instructions of FILE, each on the state of its line
   gen N         writes the assembler source of workload N: 1 to 20000
   bench N       runs workload N with four guest threads and writes what they counted
@@ -46,6 +48,7 @@ statuses:
   9   bad report: line L: KIND, where the file is no report of PROGRAM with that thread
   10   differs: where the thread and its report part: a line of both, or KIND VALUES
   11   bad plan: line L: KIND, where the file is no plan, or no script
+  13   unlawful: count C pc H KIND, where a marked call is not lawful
   14   bad vectors: toolong, or line L, where the file is no file of vectors
 
 what the usual refusals of a program file mean:

@@ -1,13 +1,14 @@
 //! The lines and the texts of the command: the line of the fault for which words, a program's file, a source,
 //! a report, a plan or a file of vectors is refused, the lines that say in which line a report and a replay
-//! differ, the texts of help and of the version, and the status with its number. `refuse_foreign_word`
-//! answers words of which one is no text.
+//! differ, those of a check of marked calls, the texts of help and of the version, and the status with its
+//! number. `refuse_foreign_word` answers words of which one is no text.
 #![tactic(auto)]
 
 mod difference_line;
 mod fault_line;
 mod foreign;
 mod help;
+mod law_line;
 mod laws;
 mod numbered_line;
 mod plan_line;
@@ -21,6 +22,7 @@ pub use difference_line::write_difference_lines;
 pub use fault_line::write_fault;
 pub use foreign::refuse_foreign_word;
 pub use help::{write_help, write_version};
+pub use law_line::{write_lawful, write_unlawful};
 pub use laws::help_is_true;
 pub use plan_line::write_plan_fault;
 pub use report_line::write_report_fault;

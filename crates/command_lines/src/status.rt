@@ -27,6 +27,8 @@ pub enum Status {
     Differs,
     /// The file is no plan, or no script.
     BadPlan,
+    /// A marked call of the thread is at fault.
+    Unlawful,
     /// The file is no file of vectors.
     BadVectors,
 }
@@ -48,6 +50,7 @@ impl Status {
             Status::BadReport => 9,
             Status::Differs => 10,
             Status::BadPlan => 11,
+            Status::Unlawful => 13,
             Status::BadVectors => 14,
         }
     }

@@ -4,6 +4,7 @@ pub mod Opened
 pub mod Ends
 pub mod Replays
 pub mod Debugs
+pub mod Checks
 pub mod Benches
 pub mod Words
 pub mod InMemory

@@ -1,6 +1,6 @@
 -- What the command writes for a request: the report of a run, the text of a plan, a listing, a program's
--- file, the block of a thread that is replayed, what a script's commands show of a thread, the answers to
--- vectors, or a text of its own; and what else may become of it.
+-- file, the block of a thread that is replayed, what a script's commands show of a thread, what is told of
+-- its marked calls, the answers to vectors, or a text of its own; and what else may become of it.
 use Rattle.std.specs.Prelude.{◌≡◌, ℕ, [], ◌∷◌, ◌++◌, List, Some, None, IfSome}
 use Rattle.sha2.specs.Sha256.{sha256}
 use Rattle.sm_types.specs.declared.config.Config.{Config}
@@ -11,8 +11,8 @@ use Rattle.sm_types.specs.Options.{numbers_of}
 use Rattle.sm_types.specs.declared.numbers.Numbers.{Numbers}
 use Rattle.cmd_words.specs.Words.{Argument, ThreadSaid, WorkloadSaid, Request}
 use Rattle.cmd_words.specs.declared.verb.Verb.{Verb}
-use Rattle.cmd_words.specs.declared.verb.Verb.TheVariants.{Run, Sim, Dis, Asm, Replay, Debug, Vectors, Gen}
-use Rattle.cmd_words.specs.declared.verb.Verb.TheVariants.{Bench, Help, Version}
+use Rattle.cmd_words.specs.declared.verb.Verb.TheVariants.{Run, Sim, Dis, Asm, Replay, Debug, AbiCheck, Vectors}
+use Rattle.cmd_words.specs.declared.verb.Verb.TheVariants.{Gen, Bench, Help, Version}
 use Rattle.asm_core.specs.Assembly.{Assembles}
 use Rattle.code_listing.specs.Listing.{listing_text}
 use Rattle.paged_memory.specs.Image.{Program}
@@ -21,10 +21,11 @@ use Rattle.elf_loader.specs.Objects.{IsFileOf}
 use Rattle.report_text.specs.Report.{ThreadEnd, report_text}
 use Rattle.command_lines.specs.Texts.{help_text, version_text}
 use Rattle.command_lines.specs.declared.status.Status.{Status}
-use Rattle.command_lines.specs.declared.status.Status.TheVariants.{Done, OutOfMemory, BadReport, Differs}
+use Rattle.command_lines.specs.declared.status.Status.TheVariants.{Done, OutOfMemory, BadReport, Differs, Unlawful}
 use Rattle.smemu.specs.Rejections.{judge_of}
 use Rattle.workload.specs.Source.{source_of}
 use Rattle.smemu.specs.Bench.{IsBench}
+use Rattle.smemu.specs.Checks.{IsLawfulOf, IsUnlawfulOf}
 use Rattle.smemu.specs.Debug.{IsDebugOf, IsDebugFrontOf}
 use Rattle.smemu.specs.Replay.{IsReplayOf, IsParted, MismatchesSo, DiffersSo}
 use Rattle.smemu.specs.Requests.{Named, files_named}
@@ -121,6 +122,10 @@ outcomes_of Debug OutOfMemory = Tells (of_script IsDebugFrontOf)
 outcomes_of Debug BadReport =
     Tells (of_script (λ file report thread script. MismatchesSo file report thread))
 outcomes_of Debug Differs = Tells (of_script (λ file report thread script. IsParted file report thread))
+outcomes_of AbiCheck Done = Tells (of_thread IsLawfulOf)
+outcomes_of AbiCheck BadReport = Tells (of_thread MismatchesSo)
+outcomes_of AbiCheck Differs = Tells (of_thread IsParted)
+outcomes_of AbiCheck Unlawful = Tells (of_thread IsUnlawfulOf)
 outcomes_of Vectors Done = Tells (of_file IsAnswersOf)
 outcomes_of Gen Done = Tells (of_workload (λ number options text. text ≡ source_of number))
 outcomes_of Bench Done = Tells (of_workload IsBench)

@@ -4,6 +4,7 @@ pub mod Threads
 pub mod DifferLines
 pub mod Replay
 pub mod Debug
+pub mod Checks
 pub mod Compare
 pub mod Excerpt
 pub mod Worlds

@@ -24,6 +24,7 @@ use Rattle.sm_types.specs.declared.config.Config.{Config}
 use Rattle.report_text.specs.Ends.{ends_of}
 use Rattle.report_text.specs.Report.{report_text}
 use Rattle.sim_text.specs.Sim.{sim_text}
+use Rattle.command_lines.specs.LawLines.{lawful_line, unlawful_line}
 use Rattle.command_lines.specs.ReportLines.{report_line, difference_lines}
 use Rattle.command_lines.specs.Texts.{usage_line, help_text, version_text}
 use Rattle.command_lines.specs.declared.status.Status.{Status}
@@ -31,6 +32,7 @@ use Rattle.command_lines.specs.declared.status.Status.TheVariants as status
 use Rattle.workload.specs.Source.{source_of}
 use Rattle.smemu.specs.Answers.{IsFile, outcome}
 use Rattle.smemu.specs.Bench.{bench_line}
+use Rattle.smemu.specs.Checks.{kind_word, IsLawfulOf, IsUnlawfulOf}
 use Rattle.smemu.specs.DifferLines.{parting_line}
 use Rattle.smemu.specs.Excerpt.{excerpt_text}
 use Rattle.smemu.specs.Ends.{Change, change, Stands, Defined, FetchesReached, absent_line, read_fault_line}
@@ -76,6 +78,7 @@ answer_text (texts.Simulation simulation) = simulation_text simulation
 answer_text (texts.Listing image) = listing_text image.code
 answer_text (texts.Program bytes) = bytes.items
 answer_text (texts.Block block) = excerpt_text block
+answer_text (texts.Lawful calls unreturned) = lawful_line calls unreturned
 answer_text (texts.Lines lines) = flat_map with_line_feed lines.items
 answer_text (texts.Source number) = source_of number
 answer_text (texts.Summary summary) = summary_text summary
@@ -91,10 +94,12 @@ difference_text (difference.Lines line report replay) = difference_lines line re
 abbrev pub ending_text : Ending → List ℕ
 ending_text (ending.Mismatch line kind) = report_line (record { line = line; kind = kind })
 ending_text (ending.Differs it) = difference_text it
+ending_text (ending.Unlawful count pc kind) = unlawful_line count pc (kind_word kind)
 
 abbrev pub ending_status : Ending → Status
 ending_status (ending.Mismatch line kind) = status.BadReport
 ending_status (ending.Differs it) = status.Differs
+ending_status (ending.Unlawful count pc kind) = status.Unlawful
 
 -- the line and the status of a file that was not fetched
 abbrev pub unread_line : Unread → List ℕ → List ℕ
@@ -262,6 +267,22 @@ EndsDebug file report thread script (Err (refusal.Ended (ending.Differs it))) =
     IsParted file report thread (difference_text it)
 EndsDebug file report thread script (Err refusal.Memory) = Unit {0}
 EndsDebug file report thread script (Err other) = ⊥
+
+-- ---- checks of marked calls
+
+-- the end of `abi-check`, by the program's file and the report, which are accepted
+abbrev pub EndsCheck : List ℕ → List ℕ → ℕ → Result Answer Refusal → Type 0
+EndsCheck file report thread (Ok (answer.Text answered)) =
+    IsLawfulOf file report thread (answer_text answered)
+EndsCheck file report thread (Ok (answer.Session d)) = ⊥
+EndsCheck file report thread (Err (refusal.Ended (ending.Mismatch line kind))) =
+    IsMismatched file report thread (record { line = line; kind = kind })
+EndsCheck file report thread (Err (refusal.Ended (ending.Differs it))) =
+    IsParted file report thread (difference_text it)
+EndsCheck file report thread (Err (refusal.Ended (ending.Unlawful count pc kind))) =
+    IsUnlawfulOf file report thread (unlawful_line count pc (kind_word kind))
+EndsCheck file report thread (Err refusal.Memory) = Unit {0}
+EndsCheck file report thread (Err other) = ⊥
 
 -- ---- ends
 

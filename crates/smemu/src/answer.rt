@@ -7,7 +7,7 @@ use crate::debug::Debugging;
 use crate::excerpt::Excerpt;
 use crate::lines::write_lines;
 use code_listing::write_listing;
-use command_lines::{write_help, write_version};
+use command_lines::{write_help, write_lawful, write_version};
 use edge_io::{PutFault, Sink};
 use kernel_contexts::Finished;
 use paged_memory::Image;
@@ -52,6 +52,8 @@ pub enum Text {
     Program(Vec<u8>),
     /// The block of a thread that was replayed, which stands in its report.
     Block(Excerpt),
+    /// How many marked calls of a thread returned, and how many did not, where none is at fault.
+    Lawful { calls: u32, unreturned: u32 },
     /// Lines, without their line feeds.
     Lines(Vec<Bytes>),
     /// The source of the workload of that number.
@@ -106,6 +108,7 @@ pub fn write_text<K: Sink>(out: &mut K, text: &Text) -> Result<(), PutFault>
         Text::Listing(image) => write_listing(image.code(), out),
         Text::Program(bytes) => out.put(bytes.as_slice()),
         Text::Block(block) => out.put(block.bytes()),
+        Text::Lawful { calls, unreturned } => write_lawful(out, *calls, *unreturned),
         Text::Lines(lines) => write_lines(out, lines.as_slice()),
         Text::Source(number) => write_source(*number, out),
         Text::Summary(summary) => write_summary(out, summary),

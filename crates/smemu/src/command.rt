@@ -19,6 +19,7 @@ ghost use Rattle.smemu.specs.declared.refusal.Refusal.TheVariants as refusals;
 
 use crate::answer::{Answer, RunReport, Text, write_text};
 use crate::bench::run_workload;
+use crate::check::check_report;
 use crate::debug::{debug_report, write_session};
 use crate::files::{open_plan, open_program, open_report, open_script, open_source};
 use crate::refusal::{Refusal, status_of, write_refusal};
@@ -170,6 +171,22 @@ fn debug_thread<F: Files>(
     debug_report(alloc, file, &read, thread, commands)
 }
 
+/// `abi-check PROGRAM REPORT THREAD`: the check of the marked calls of that thread of the report.
+fn check_thread<F: Files>(
+    alloc: Global,
+    program: String,
+    report: String,
+    thread: u32,
+    files: &mut F,
+) -> Result<Answer, Refusal>
+    ensures { CarriesOut F.fetched F.view (request_of (command.AbiCheck program report thread)) files.old
+        files.new result }
+{
+    let file = open_program(alloc, program, files)?;
+    let read = open_report(alloc, report, files)?;
+    check_report(alloc, file.bytes.as_slice(), &file.content, &read, thread)
+}
+
 /// The options of a workload on so many cores: four threads, and else those of a command that gives none.
 pub fn bench_options(cores: u32) -> Config
     requires { (1 ≤ cores) × (cores ≤ 64) }
@@ -223,6 +240,11 @@ fn carry_out<F: Files>(alloc: Global, asked: Command, files: &mut F) -> Result<A
             thread,
             script,
         } => debug_thread(alloc, program, report, thread, script, files),
+        Command::AbiCheck {
+            program,
+            report,
+            thread,
+        } => check_thread(alloc, program, report, thread, files),
         Command::Vectors { .. } => unreachable!(),
         Command::Gen { number } => Ok(Answer::Text(Text::Source(number))),
         Command::Bench { number, cores } => bench(alloc, number, cores, files),
@@ -343,6 +365,8 @@ pub fn smemu_alone<F: Files, K: Sink>(
 /// - `debug PROGRAM REPORT THREAD SCRIPT` carries out the commands of the script of that name over such a
 ///   run: what they print, each answer when it comes, so that with `OutOfMemory` those of earlier commands
 ///   may be written;
+/// - `abi-check PROGRAM REPORT THREAD` makes such a run, and tells the first fault of its marked calls, or how
+///   many of these returned;
 /// - `dis PROGRAM` lists the program;
 /// - `asm SOURCE` assembles the source of that name: the program file;
 /// - `vectors FILE` with its options runs single instructions: what each does in the state of its line;

@@ -3,8 +3,10 @@ ghost use Rattle.std.specs.Prelude.{◌≡◌};
 ghost use Rattle.edge_io.specs.Sink.{Writes};
 ghost use Rattle.smemu.specs.Views.{ending_status, ending_text};
 
+use crate::check::kind_word;
 use crate::differ_line::write_difference;
-use command_lines::{Status, write_report_fault};
+use abi_checker::AbiKind;
+use command_lines::{Status, write_report_fault, write_unlawful};
 use edge_io::{PutFault, Sink};
 use lone_runner::AloneFault;
 use report_reader::ReportKind;
@@ -16,6 +18,8 @@ pub enum Ending {
     Mismatch { line: u64, kind: ReportKind },
     /// The thread that is replayed and its report part.
     Differs(Difference),
+    /// A marked call of the thread is at fault: the count and the PC of the place, and the kind.
+    Unlawful { count: u32, pc: u64, kind: AbiKind },
 }
 
 /// Where a thread that is replayed and its report part.
@@ -38,6 +42,7 @@ pub fn status_of_ending(ending: &Ending) -> Status
     match ending {
         Ending::Mismatch { .. } => Status::BadReport,
         Ending::Differs(_) => Status::Differs,
+        Ending::Unlawful { .. } => Status::Unlawful,
     }
 }
 
@@ -48,5 +53,8 @@ pub fn write_ending<K: Sink>(out: &mut K, ending: &Ending) -> Result<(), PutFaul
     match ending {
         Ending::Mismatch { line, kind } => write_report_fault(out, *line, *kind),
         Ending::Differs(it) => write_difference(out, it),
+        Ending::Unlawful { count, pc, kind } => {
+            write_unlawful(out, *count, *pc, kind_word(*kind))
+        }
     }
 }

@@ -2,7 +2,7 @@
 //! report of its run, makes the events of a plan and writes which were skipped, the report and the history,
 //! lists a program's code words, assembles a source and writes the program file, runs a thread of a report
 //! alone and writes its block, carries out a script of the debugger over such a run and writes what it shows,
-//! answers the vectors of a file, or writes or runs a workload.
+//! checks the marked calls of such a run, answers the vectors of a file, or writes or runs a workload.
 //!
 //! Its contract says, for all words, files and sinks: with `Done` what the words ask for was written, which
 //! is the report of the program that the file stands for, of which each thread ends as it does alone over its
@@ -19,6 +19,7 @@
 
 mod answer;
 mod bench;
+mod check;
 mod command;
 mod compare;
 mod debug;

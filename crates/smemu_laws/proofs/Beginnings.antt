@@ -4,9 +4,11 @@ use Rattle.std.specs.List.{concat}
 use Rattle.sm_types.specs.declared.numbers.Numbers.{Numbers}
 use Rattle.cmd_words.specs.Words.{Argument, ThreadSaid, Request}
 use Rattle.cmd_words.specs.declared.verb.Verb.{Verb}
-use Rattle.cmd_words.specs.declared.verb.Verb.TheVariants.{Replay, Debug}
+use Rattle.cmd_words.specs.declared.verb.Verb.TheVariants.{Replay, Debug, AbiCheck}
 use Rattle.edge_io.specs.Files.{FilesView}
 use Rattle.report_reader.specs.Reading.{Fault}
+use Rattle.text_lines.specs.Lines.{hex64}
+use Rattle.command_lines.specs.LawLines.{unlawful_line}
 use Rattle.command_lines.specs.VectorsLines.{vectors_line}
 use Rattle.command_lines.specs.declared.vectors_line.VectorsFault.{VectorsFault}
 use Rattle.command_lines.specs.declared.vectors_line.VectorsFault.TheVariants as vectors
@@ -18,8 +20,10 @@ use Rattle.command_lines.specs.SourceLines.{source_line, source_words, line_numb
 use Rattle.command_lines.specs.Texts.{HasFront, kind_word, status_words, usage_line}
 use Rattle.command_lines.specs.declared.status.Status.{Status}
 use Rattle.command_lines.specs.declared.status.Status.TheVariants.{Done, Usage, Absent, ReadFault, WriteFault, OutOfMemory, BadReport, Differs}
-use Rattle.command_lines.specs.declared.status.Status.TheVariants.{BadPlan, BadVectors}
+use Rattle.command_lines.specs.declared.status.Status.TheVariants.{BadPlan, Unlawful, BadVectors}
 use Rattle.smemu.specs.Answers.{IsToldBy, outcomes_of}
+use Rattle.smemu.specs.Checks as checks
+use Rattle.smemu.specs.Checks.{IsUnlawfulOf}
 use Rattle.smemu.specs.DifferLines.{parting_line, parting_words}
 use Rattle.smemu.specs.Ends.{Change, Defined, Stands}
 use Rattle.smemu.specs.Rejections.{rejection_line, rejection_status}
@@ -39,6 +43,12 @@ vectors_begun : (fault : VectorsFault) (text : List ℕ) → text ≡ vectors_li
 unfolding vectors_line
 vectors_begun vectors.TooLong text e = (codes "toolong\n", e)
 vectors_begun (vectors.Line line) text e = (concat (codes "line " ∷ decimal line ∷ codes "\n" ∷ []), e)
+
+unlawful_begun : (file report : List ℕ) (thread : ℕ) (text : List ℕ) → IsUnlawfulOf file report thread text
+    → HasFront text (status_words Unlawful)
+unfolding unlawful_line
+unlawful_begun file report thread text h =
+    (concat (decimal h.count ∷ codes " pc " ∷ hex64 h.pc ∷ codes " " ∷ checks.kind_word h.kind ∷ codes "\n" ∷ []), h.is_text)
 
 rejection_begun : (rejection : Rejection) (text : List ℕ) → text ≡ rejection_line rejection
     → HasFront text (status_words (rejection_status rejection))
@@ -71,6 +81,12 @@ outcome_begun Debug BadReport (program ∷ report ∷ ThreadSaid thread ∷ scri
 outcome_begun Debug Differs (program ∷ report ∷ ThreadSaid thread ∷ script ∷ []) options (file ∷ bytes ∷ lines ∷ [])
     text other some h =
     so_begun file bytes thread text (inl h)
+outcome_begun AbiCheck BadReport (program ∷ report ∷ ThreadSaid thread ∷ []) options (file ∷ bytes ∷ []) text other some h =
+    report_begun h.fault text h.is_text
+outcome_begun AbiCheck Differs (program ∷ report ∷ ThreadSaid thread ∷ []) options (file ∷ bytes ∷ []) text other some h =
+    so_begun file bytes thread text (inl h)
+outcome_begun AbiCheck Unlawful (program ∷ report ∷ ThreadSaid thread ∷ []) options (file ∷ bytes ∷ []) text other some h =
+    unlawful_begun file bytes thread text h
 outcome_begun verb Done operands options files text other some h = absurd (other refl)
 outcome_begun verb OutOfMemory operands options files text other some h = absurd (some refl)
 outcome_begun verb s operands options files text other some h = absurd h

@@ -2,6 +2,7 @@ pub mod SerialEnds
 pub mod OneAnswer
 pub mod EachAnswer
 pub mod OneDebug
+pub mod OneCheck
 pub mod OneEnding
 pub mod Beginnings
 pub mod Fates

@@ -3,7 +3,7 @@ use Rattle.std.proofs.Common.{◌≡◌, ℕ, List, [], ◌∷◌, Some, refl, s
 use Rattle.cmd_words.specs.Forms.{form_of}
 use Rattle.cmd_words.specs.Words.{Request, arguments_of, command_of}
 use Rattle.cmd_words.specs.declared.verb.Verb.{Verb}
-use Rattle.cmd_words.specs.declared.verb.Verb.TheVariants.{Sim, Replay, Debug}
+use Rattle.cmd_words.specs.declared.verb.Verb.TheVariants.{Sim, Replay, Debug, AbiCheck}
 use Rattle.smemu.specs.Requests.{files_named, kinds_of, named_by}
 use Rattle.smemu.proofs.Words.{asked_for}
 use Rattle.smemu_laws.specs.Names.{names_of, names_said}
@@ -24,6 +24,10 @@ named_so Debug (program ∷ []) = refl
 named_so Debug (program ∷ report ∷ []) = refl
 named_so Debug (program ∷ report ∷ thread ∷ []) = refl
 named_so Debug (program ∷ report ∷ thread ∷ script ∷ words) = refl
+named_so AbiCheck [] = refl
+named_so AbiCheck (program ∷ []) = refl
+named_so AbiCheck (program ∷ report ∷ []) = refl
+named_so AbiCheck (program ∷ report ∷ thread ∷ words) = refl
 named_so verb [] = refl
 named_so verb (word ∷ words) = refl
 

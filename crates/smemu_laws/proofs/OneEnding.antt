@@ -8,10 +8,12 @@ use Rattle.sm_types.specs.declared.config.Config.{Config}
 use Rattle.sm_types.specs.declared.numbers.Numbers.{Numbers}
 use Rattle.cmd_words.specs.Words.{Argument, ThreadSaid, WorkloadSaid, Request, command_of}
 use Rattle.cmd_words.specs.declared.verb.Verb.{Verb}
-use Rattle.cmd_words.specs.declared.verb.Verb.TheVariants.{Run, Sim, Dis, Asm, Replay, Debug, Vectors, Gen, Bench}
+use Rattle.cmd_words.specs.declared.verb.Verb.TheVariants.{Run, Sim, Dis, Asm, Replay, Debug, AbiCheck, Vectors, Gen, Bench}
 use Rattle.cmd_words.specs.declared.verb.Verb.TheVariants.{Help, Version}
 use Rattle.edge_io.specs.Files.{FilesView}
 use Rattle.lone_runner.specs.Parting.{EndsAt, IsParting}
+use Rattle.abi_checker.specs.declared.abi.Abi.{Abi}
+use Rattle.abi_checker.proofs.Once.{checked_ends}
 use Rattle.lone_runner.specs.declared.fault.AloneFault.{AloneFault}
 use Rattle.lone_runner.proofs.Partings.{ends_whole, one_fault}
 use Rattle.lone_runner.proofs.Runs.{one_state, one_stop}
@@ -24,8 +26,9 @@ use Rattle.report_reader.specs.Report.{report_in}
 use Rattle.report_text.specs.Block.{block_text}
 use Rattle.command_lines.specs.ReportLines.{difference_lines, report_line}
 use Rattle.command_lines.specs.declared.status.Status.{Status}
-use Rattle.command_lines.specs.declared.status.Status.TheVariants.{Done, Absent, ReadFault, OutOfMemory, BadReport, Differs}
+use Rattle.command_lines.specs.declared.status.Status.TheVariants.{Done, Absent, ReadFault, OutOfMemory, BadReport, Differs, Unlawful}
 use Rattle.smemu.specs.Answers.{IsOutcome, IsToldBy, outcomes_of, outcome}
+use Rattle.smemu.specs.Checks.{IsCheckOf}
 use Rattle.smemu.specs.DifferLines.{parting_line}
 use Rattle.smemu.specs.Ends.{Change, Stands}
 use Rattle.smemu.specs.Rejections.{rejection_line, rejection_status}
@@ -38,6 +41,7 @@ use Rattle.smemu_laws.specs.OneAnswer.{AreOneText}
 use Rattle.smemu_laws.proofs.Fates.{Fate, AllAccepted, Missing, Refused, IsDecided, missing_line, accepted_fate, decided}
 use Rattle.smemu_laws.proofs.OneAnswer.{same_said, one_assembly, one_block, one_listing, one_replay, one_run_report}
 use Rattle.smemu_laws.proofs.OneAnswer.{one_answers, one_bench, one_simulation}
+use Rattle.smemu_laws.proofs.OneCheck.{lawful_or_not, one_lawful, one_unlawful}
 use Rattle.smemu_laws.proofs.OneDebug.{debug_whole, one_debug}
 use Rattle.command_lines.specs.Texts.{HasFront}
 
@@ -101,6 +105,13 @@ whole_parts file report thread text at h g =
     let one = one_block file report thread at g.at in
     no_parting at.program g.at.program at.config g.at.config thread at.block g.at.block one.program one.config one.block
     (record { state = h.state; stop = h.stop; run = h.run; count = h.counts }) g.fault g.parts
+
+-- nor does one that is checked
+check_parts : (file report : List ℕ) (thread : ℕ) (text : List ℕ) (abi : Abi) → IsCheckOf file report thread abi
+    → IsParted file report thread text → ⊥
+check_parts file report thread text abi h g =
+    whole_parts file report thread text h.at
+    (checked_ends h.at.program h.at.config thread h.at.block.journal h.at.block.count abi h.checked) g
 
 -- a report that is one of the program, with the thread, is not one of another
 matched : (file report : List ℕ) (thread : ℕ) (at : IsBlockIn file report thread) (fault : Fault) → IsMismatched file report thread fault
@@ -225,6 +236,38 @@ one_outcome Debug BadReport Differs (program ∷ report ∷ ThreadSaid thread �
 one_outcome Debug Differs BadReport (program ∷ report ∷ ThreadSaid thread ∷ script ∷ []) options (file ∷ bytes ∷ lines ∷ [])
     text other m n h g =
     absurd (matched file bytes thread h.at g.fault g.is_mismatched)
+one_outcome AbiCheck Done Done (program ∷ report ∷ ThreadSaid thread ∷ []) options (file ∷ bytes ∷ []) text other m n h g =
+    (refl, one_lawful file bytes thread text other h g)
+one_outcome AbiCheck Unlawful Unlawful (program ∷ report ∷ ThreadSaid thread ∷ []) options (file ∷ bytes ∷ []) text other m n h g =
+    (refl, one_unlawful file bytes thread text other h g)
+one_outcome AbiCheck BadReport BadReport (program ∷ report ∷ ThreadSaid thread ∷ []) options (file ∷ bytes ∷ []) text other m n h g =
+    (refl, one_mismatch file bytes thread text other h g)
+one_outcome AbiCheck Differs Differs (program ∷ report ∷ ThreadSaid thread ∷ []) options (file ∷ bytes ∷ []) text other m n h g =
+    (refl, one_difference file bytes thread text other (inl h) (inl g))
+one_outcome AbiCheck Done Unlawful (program ∷ report ∷ ThreadSaid thread ∷ []) options (file ∷ bytes ∷ []) text other m n h g =
+    absurd (lawful_or_not file bytes thread text other h g)
+one_outcome AbiCheck Unlawful Done (program ∷ report ∷ ThreadSaid thread ∷ []) options (file ∷ bytes ∷ []) text other m n h g =
+    absurd (lawful_or_not file bytes thread other text g h)
+one_outcome AbiCheck Done BadReport (program ∷ report ∷ ThreadSaid thread ∷ []) options (file ∷ bytes ∷ []) text other m n h g =
+    absurd (matched file bytes thread h.check.at g.fault g.is_mismatched)
+one_outcome AbiCheck BadReport Done (program ∷ report ∷ ThreadSaid thread ∷ []) options (file ∷ bytes ∷ []) text other m n h g =
+    absurd (matched file bytes thread g.check.at h.fault h.is_mismatched)
+one_outcome AbiCheck Done Differs (program ∷ report ∷ ThreadSaid thread ∷ []) options (file ∷ bytes ∷ []) text other m n h g =
+    absurd (check_parts file bytes thread other _ h.check g)
+one_outcome AbiCheck Differs Done (program ∷ report ∷ ThreadSaid thread ∷ []) options (file ∷ bytes ∷ []) text other m n h g =
+    absurd (check_parts file bytes thread text _ g.check h)
+one_outcome AbiCheck Unlawful BadReport (program ∷ report ∷ ThreadSaid thread ∷ []) options (file ∷ bytes ∷ []) text other m n h g =
+    absurd (matched file bytes thread h.check.at g.fault g.is_mismatched)
+one_outcome AbiCheck BadReport Unlawful (program ∷ report ∷ ThreadSaid thread ∷ []) options (file ∷ bytes ∷ []) text other m n h g =
+    absurd (matched file bytes thread g.check.at h.fault h.is_mismatched)
+one_outcome AbiCheck Unlawful Differs (program ∷ report ∷ ThreadSaid thread ∷ []) options (file ∷ bytes ∷ []) text other m n h g =
+    absurd (check_parts file bytes thread other _ h.check g)
+one_outcome AbiCheck Differs Unlawful (program ∷ report ∷ ThreadSaid thread ∷ []) options (file ∷ bytes ∷ []) text other m n h g =
+    absurd (check_parts file bytes thread text _ g.check h)
+one_outcome AbiCheck BadReport Differs (program ∷ report ∷ ThreadSaid thread ∷ []) options (file ∷ bytes ∷ []) text other m n h g =
+    absurd (matched file bytes thread g.at h.fault h.is_mismatched)
+one_outcome AbiCheck Differs BadReport (program ∷ report ∷ ThreadSaid thread ∷ []) options (file ∷ bytes ∷ []) text other m n h g =
+    absurd (matched file bytes thread h.at g.fault g.is_mismatched)
 one_outcome Vectors Done Done operands options (file ∷ []) text other m n h g = (refl, one_answers file options text other h g)
 one_outcome Gen Done Done (WorkloadSaid number ∷ []) options [] text other m n h g = (refl, h ∙ sym g)
 one_outcome Bench Done Done (WorkloadSaid number ∷ []) options [] text other m n h g =
@@ -233,6 +276,9 @@ one_outcome Help Done Done operands options files text other m n h g = (refl, h 
 one_outcome Version Done Done operands options files text other m n h g = (refl, h ∙ sym g)
 one_outcome Replay BadReport t operands options files text other m n h g = absurd g
 one_outcome Replay Differs t operands options files text other m n h g = absurd g
+one_outcome AbiCheck BadReport t operands options files text other m n h g = absurd g
+one_outcome AbiCheck Differs t operands options files text other m n h g = absurd g
+one_outcome AbiCheck Unlawful t operands options files text other m n h g = absurd g
 one_outcome Debug BadReport t operands options files text other m n h g = absurd g
 one_outcome Debug Differs t operands options files text other m n h g = absurd g
 one_outcome verb Done t operands options files text other m n h g = absurd g

@@ -8,7 +8,7 @@ use Rattle.cmd_words.specs.Options.{default_options, default_of, with_number}
 use Rattle.cmd_words.specs.Words.{NameSaid, ThreadSaid, WorkloadSaid}
 use Rattle.cmd_words.specs.declared.setting.Setting.TheVariants.{Cores}
 use Rattle.cmd_words.specs.declared.form.Operand.TheVariants.{Name, Thread, Workload}
-use Rattle.cmd_words.specs.declared.verb.Verb.TheVariants.{Run, Sim, Dis, Asm, Replay, Debug, Vectors, Gen, Bench}
+use Rattle.cmd_words.specs.declared.verb.Verb.TheVariants.{Run, Sim, Dis, Asm, Replay, Debug, AbiCheck, Vectors, Gen, Bench}
 use Rattle.cmd_words.specs.declared.verb.Verb.TheVariants.{Help, Version}
 use Rattle.cmd_words.proofs.Numbers.{both_ends}
 use Rattle.cmd_words.proofs.Reading.{asked_for, both_named, debugged, given_options, named, no_options, replayed}
@@ -88,6 +88,23 @@ returns-in_ok-name_at-in-Debug-3-clause-command c =
     (rw c.in-Debug.is at c.requires.verb)
     (debugged words program report thread script c.in_ok-name_at-in-Debug.ensures.ok c.in_ok-name_at-in-Debug-2.ensures.ok
     c.thread_at-in-Debug.ensures.number c.in_ok-name_at-in-Debug-3.ensures.ok) (no_options Debug words refl)
+
+pub thread_at-requires-in-AbiCheck-clause-number : goal.thread_at-requires-in-AbiCheck-clause-number
+thread_at-requires-in-AbiCheck-clause-number c =
+    operand_stands (map string_bytes c.args.words.now) (form_of AbiCheck) c.args.given.now (length c.args.words.now) 2 Thread
+    (rw c.in-AbiCheck.is at c.requires.read) refl (omega arith)
+
+pub returns-in_ok-name_at-in-AbiCheck-2-clause-command : goal.returns-in_ok-name_at-in-AbiCheck-2-clause-command
+returns-in_ok-name_at-in-AbiCheck-2-clause-command c =
+    let words = map string_bytes c.args.words.now in
+    let program = string_bytes c.in_ok-name_at-in-AbiCheck.field-0 in
+    let report = string_bytes c.in_ok-name_at-in-AbiCheck-2.field-0 in
+    let thread = c.thread_at-in-AbiCheck.result in
+    asked_for words c.args.given.now AbiCheck (NameSaid program ∷ NameSaid report ∷ ThreadSaid thread ∷ []) default_options
+    (length c.args.words.now) (sym (length-map c.args.words.now string_bytes)) (rw c.in-AbiCheck.is at c.requires.read)
+    (rw c.in-AbiCheck.is at c.requires.verb)
+    (replayed words program report thread c.in_ok-name_at-in-AbiCheck.ensures.ok c.in_ok-name_at-in-AbiCheck-2.ensures.ok
+    c.thread_at-in-AbiCheck.ensures.number) (no_options AbiCheck words refl)
 
 pub returns-in_ok-name_at-in-Vectors-clause-command : goal.returns-in_ok-name_at-in-Vectors-clause-command
 returns-in_ok-name_at-in-Vectors-clause-command c =
