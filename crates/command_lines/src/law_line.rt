@@ -7,8 +7,8 @@ use text_lines::hex64_digits;
 
 /// Writes the line of a run whose marked calls are lawful: how many returned, and how many did not.
 #[tactic(auto, unfolding(crate::specs::LawLines::lawful_line))]
-pub fn write_lawful<K: Sink>(out: &mut K, returned: u32, open: u32) -> Result<(), PutFault>
-    ensures { Writes (K.view out.old) (K.view out.new) result (lawful_line returned open) }
+pub fn write_lawful<K: Sink>(out: &mut K, returned: u32, unreturned: u32) -> Result<(), PutFault>
+    ensures { Writes (K.view out.old) (K.view out.new) result (lawful_line returned unreturned) }
 {
     let mut first = itoa::Buffer::new();
     let mut second = itoa::Buffer::new();
@@ -18,7 +18,7 @@ pub fn write_lawful<K: Sink>(out: &mut K, returned: u32, open: u32) -> Result<()
             b"abi yes calls ",
             first.format(returned).as_bytes(),
             b" open ",
-            second.format(open).as_bytes(),
+            second.format(unreturned).as_bytes(),
             b"\n",
         ],
     )
