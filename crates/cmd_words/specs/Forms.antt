@@ -5,8 +5,8 @@ use Rattle.cmd_words.specs.declared.form.Operand.TheVariants.{Name, Thread, Work
 use Rattle.cmd_words.specs.declared.setting.Setting.{Setting}
 use Rattle.cmd_words.specs.declared.setting.Setting.TheVariants.{Vl, Svl, Slice, Budget, Threads, Cores}
 use Rattle.cmd_words.specs.declared.verb.Verb.{Verb}
-use Rattle.cmd_words.specs.declared.verb.Verb.TheVariants.{Run, Sim, Dis, Asm, Replay, Debug, AbiCheck, Vectors}
-use Rattle.cmd_words.specs.declared.verb.Verb.TheVariants.{Gen, Bench, Help, Version}
+use Rattle.cmd_words.specs.declared.verb.Verb.TheVariants.{Run, Sim, Dis, Asm, Replay, Debug, AbiCheck}
+use Rattle.cmd_words.specs.declared.verb.Verb.TheVariants.{Vectors, Gen, Bench, Help, Version}
 
 -- what must stand after a command, in order, and the options that may follow then, each with its value as the
 -- next word

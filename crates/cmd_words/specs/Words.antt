@@ -18,8 +18,8 @@ use Rattle.cmd_words.specs.declared.form.Operand.{Operand}
 use Rattle.cmd_words.specs.declared.form.Operand.TheVariants.{Name, Thread, Workload}
 use Rattle.cmd_words.specs.declared.setting.Setting.{Setting}
 use Rattle.cmd_words.specs.declared.verb.Verb.{Verb}
-use Rattle.cmd_words.specs.declared.verb.Verb.TheVariants.{Run, Sim, Dis, Asm, Replay, Debug, AbiCheck, Vectors}
-use Rattle.cmd_words.specs.declared.verb.Verb.TheVariants.{Gen, Bench, Help, Version}
+use Rattle.cmd_words.specs.declared.verb.Verb.TheVariants.{Run, Sim, Dis, Asm, Replay, Debug, AbiCheck}
+use Rattle.cmd_words.specs.declared.verb.Verb.TheVariants.{Vectors, Gen, Bench, Help, Version}
 
 -- the command of a word
 unfoldable pub verb_of : List ℕ → Option Verb

@@ -11,8 +11,8 @@ use Rattle.sm_types.specs.Options.{numbers_of}
 use Rattle.sm_types.specs.declared.numbers.Numbers.{Numbers}
 use Rattle.cmd_words.specs.Words.{Argument, ThreadSaid, WorkloadSaid, Request}
 use Rattle.cmd_words.specs.declared.verb.Verb.{Verb}
-use Rattle.cmd_words.specs.declared.verb.Verb.TheVariants.{Run, Sim, Dis, Asm, Replay, Debug, AbiCheck, Vectors}
-use Rattle.cmd_words.specs.declared.verb.Verb.TheVariants.{Gen, Bench, Help, Version}
+use Rattle.cmd_words.specs.declared.verb.Verb.TheVariants.{Run, Sim, Dis, Asm, Replay, Debug, AbiCheck}
+use Rattle.cmd_words.specs.declared.verb.Verb.TheVariants.{Vectors, Gen, Bench, Help, Version}
 use Rattle.asm_core.specs.Assembly.{Assembles}
 use Rattle.code_listing.specs.Listing.{listing_text}
 use Rattle.paged_memory.specs.Image.{Program}
@@ -21,7 +21,8 @@ use Rattle.elf_loader.specs.Objects.{IsFileOf}
 use Rattle.report_text.specs.Report.{ThreadEnd, report_text}
 use Rattle.command_lines.specs.Texts.{help_text, version_text}
 use Rattle.command_lines.specs.declared.status.Status.{Status}
-use Rattle.command_lines.specs.declared.status.Status.TheVariants.{Done, OutOfMemory, BadReport, Differs, Unlawful}
+use Rattle.command_lines.specs.declared.status.Status.TheVariants.{Done, OutOfMemory, BadReport, Differs}
+use Rattle.command_lines.specs.declared.status.Status.TheVariants.{Unlawful}
 use Rattle.smemu.specs.Rejections.{judge_of}
 use Rattle.workload.specs.Source.{source_of}
 use Rattle.smemu.specs.Bench.{IsBench}

@@ -365,8 +365,8 @@ pub fn smemu_alone<F: Files, K: Sink>(
 /// - `debug PROGRAM REPORT THREAD SCRIPT` carries out the commands of the script of that name over such a
 ///   run: what they print, each answer when it comes, so that with `OutOfMemory` those of earlier commands
 ///   may be written;
-/// - `abi-check PROGRAM REPORT THREAD` makes such a run, and tells the first fault of its marked calls, or how
-///   many of these returned;
+/// - `abi-check PROGRAM REPORT THREAD` makes such a run, and tells the first fault of its marked calls, or
+///   how many of these returned;
 /// - `dis PROGRAM` lists the program;
 /// - `asm SOURCE` assembles the source of that name: the program file;
 /// - `vectors FILE` with its options runs single instructions: what each does in the state of its line;
