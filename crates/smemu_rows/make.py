@@ -24,6 +24,7 @@ from elf import (ALLOC, DYNAMIC, EXECINSTR, INTERP, LOAD, NOTE, STACK, STRTAB, S
 from expected import report
 from expected_replay import replay
 from workload import bench_line, text as workload_text
+from abi_rows import abi_rows
 from altered import TWO_THREADS, altered_list, two_threads
 from changed import changed_list, group
 from debug_rows import debug_rows
@@ -31,6 +32,7 @@ from expected_debug import listed
 from frames import frames
 from instructions import EXIT, SVC, add, branch, call, movz, subs
 from lazy import lazy_rows
+from marked_calls import abi_check
 from nested import ADDS, masked_and_nested, masks
 from nested_replays import changed_programs, replays_of_nested, version_1_replays
 from source_lines import SOURCE, asm, changes as source_changes
@@ -686,7 +688,7 @@ def words_of(options):
 # rows of each command, whose reads and writes fail in turn as well
 FAILING = ("answer.elf", "writes-33-and-then-to-2.elf", "answer.s", "listing-words.elf", "replay-answer-as-it-is.report", "replay-version-2-of-two-threads.report",
            "plan-of-the-example.plan", "plan-has-every-refusal.plan", "debug-shows-all-in-the-middle.script", "gen-77", "bench-1-on-1", "refused-empty.elf",
-           "source-unknown-first.s", "mixed-lines-128-256.vectors")
+           "source-unknown-first.s", "mixed-lines-128-256.vectors", "abi-check-second-loses.report")
 
 
 def main():
@@ -716,7 +718,11 @@ def main():
     rows += [(f"{name}.elf", None, file, "", "") for name, file in framed.items()] + [(name, None, text.encode(), "", "") for name, text in framed_reports.items()]
     others = {name: file for name, _, file, _, _ in rows if name in ("debug-signals.report", *TWO_THREADS.values())}
     altered = altered_list(files, written, others)
-    contents = {name: file for name, _, file, _, _ in rows}
+    contents = {name: file for name, _, file, _, _ in rows} | {f"{name}.txt": text if isinstance(text, bytes) else text.encode() for name, _, _, text, _ in rows}
+    abi_files, abi_reports, abi_list = abi_rows(contents, sorted(name.removesuffix(".elf") for name in contents if re.fullmatch("lazy-callee-.*[.]elf", name)))
+    rows += [(f"{name}.elf", None, file, "", "") for name, file in abi_files.items()] + [(name, None, text.encode(), "", "") for name, text in abi_reports.items()]
+    rows += [(f"abi-check-{name}.report", status, abi_reports[f"abi-{name}.report"].encode(), text, {"abi-check": "", f"abi-{name}.elf": "", "0": ""})
+             for name, (status, text) in ((name, abi_check(abi_files[f"abi-{name}"], abi_reports[f"abi-{name}.report"].encode(), 0)) for name in ("twice", "second-loses"))]
     moved_lines = group("source-with-lines-that-move.s", "asm @", SOURCE, source_changes(), asm, 2000)
     changed = changed_list({name: words_of(options) for name, _, _, _, options in rows}, contents, listed(), moved_lines)
     vector_lines, altered_vectors = vector_lists(contents), altered_steps()
@@ -734,10 +740,10 @@ def main():
     rows = [row for row in rows if row[1] is not None]
     (data / "rows.txt").write_text("".join(f"{name} {status} {words_of(options)}\n" for name, status, _, _, options in rows))
     (data / "failing.txt").write_text("".join(f"{name} {status} {words_of(options)}\n" for name, status, _, _, options in rows if name in FAILING))
-    for name, text in ("altered", altered), ("changed", changed), ("frames", framed_list), ("vector_lines", vector_lines), ("altered_steps", altered_vectors):
+    for name, text in ("altered", altered), ("changed", changed), ("frames", framed_list), ("vector_lines", vector_lines), ("abi", abi_list), ("altered_steps", altered_vectors):
         (data / f"{name}.txt").write_text(text)
     (HERE / "stdout").write_text("".join(told(*argument.split("=")) for argument in (HERE / "args").read_text().split()))
-    cases = (altered + changed + framed_list + vector_lines).count("\t")
+    cases = (altered + changed + framed_list + vector_lines + abi_list).count("\t")
     print(f"{len(rows)} rows, {cases} changed files")
 
 
