@@ -40,6 +40,7 @@ MOST_PAGES = 4096
 LONG_REPORT = ("run", "loop", "--slice", 1, "--budget", 20_000)
 SCRIPT = "where\nstep 2\nregs\nwhere\n"
 PLAN = "fetch 0\nrun 0 10\n"
+VECTORS = "d503201f\nd4000021\n1e604000\n" * 40
 
 
 class Tests:
@@ -129,8 +130,9 @@ def try_room_of_reports(tests):
 def try_outputs(tests):
     """What cannot be written is status 5, and no signal, of each command and of a refusal."""
     commands = (("run", "answer"), ("run", "answer", "--threads", 2, "--cores", 2), ("asm", "source"), ("dis", "answer"), ("sim", "answer", "plan"),
-                ("replay", "answer", "report", 0), ("debug", "answer", "report", 0, "script"), ("gen", 1), ("bench", 1), ("--help",),
-                ("--version",), ("walk",), ("run", "nothing"), ("run", "source"))
+                ("replay", "answer", "report", 0), ("debug", "answer", "report", 0, "script"), ("vectors", "vectors"),
+                ("vectors", "vectors", "--cores", 2), ("gen", 1), ("bench", 1), ("--help",), ("--version",), ("walk",), ("run", "nothing"),
+                ("run", "source"), ("vectors", "source"))
     for words in commands:
         with open("/dev/full", "wb") as full:
             tests.check(f"{words}, a full device", tests.run(*words, out=full)[0], 5)
@@ -184,12 +186,17 @@ def try_signals(tests):
 
 
 def try_threads(tests):
-    """Where the system starts no thread, a run of several cores is made by those that there are."""
+    """Where the system starts no thread, a run of several cores is made by those that there are, and vectors are answered."""
     words = ("run", "answer", "--threads", 5, "--slice", 1)
     usual = tests.run(*words)
     for cores in 2, 5, 64:
         tests.check(f"{cores} cores", tests.run(*words, "--cores", cores), usual)
         tests.check(f"{cores} cores without threads", tests.run(*words, "--cores", cores, before=no_threads), usual)
+    answers = tests.run("vectors", "vectors")
+    tests.check("vectors", answers[1].count("\n"), VECTORS.count("\n"))
+    for cores in 2, 64:
+        tests.check(f"vectors on {cores} cores", tests.run("vectors", "vectors", "--cores", cores), answers)
+        tests.check(f"vectors on {cores} cores without threads", tests.run("vectors", "vectors", "--cores", cores, before=no_threads), answers)
     for most in 1, 2, 3:
         tests.check(f"{most} threads", tests.run(*words, "--cores", 5, before=lambda: few_threads(most)), usual)
     # that the limit holds
@@ -209,6 +216,7 @@ def main():
         tests.put("source", "_start: b _start\n")
         tests.put("plan", PLAN)
         tests.put("script", SCRIPT)
+        tests.put("vectors", VECTORS)
         tests.put("report", tests.run("run", "answer")[1])
         for test in (try_room_of_loads, try_room_of_reports, try_outputs, try_signals, try_threads):
             test(tests)
