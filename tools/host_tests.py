@@ -130,7 +130,7 @@ def try_room_of_reports(tests):
 def try_outputs(tests):
     """What cannot be written is status 5, and no signal, of each command and of a refusal."""
     commands = (("run", "answer"), ("run", "answer", "--threads", 2, "--cores", 2), ("asm", "source"), ("dis", "answer"), ("sim", "answer", "plan"),
-                ("replay", "answer", "report", 0), ("debug", "answer", "report", 0, "script"), ("vectors", "vectors"),
+                ("replay", "answer", "report", 0), ("abi-check", "answer", "report", 0), ("debug", "answer", "report", 0, "script"), ("vectors", "vectors"),
                 ("vectors", "vectors", "--cores", 2), ("gen", 1), ("bench", 1), ("--help",), ("--version",), ("walk",), ("run", "nothing"),
                 ("run", "source"), ("vectors", "source"))
     for words in commands:
