@@ -13,7 +13,7 @@ A call is a BL or BLR, and its return the next count with the address after it a
     lost       it is off or another, and no buffer has it
 
 A line for each place of calls that has one which is changed or lost, with --all for each place; the status is 1 where there is one. --most N looks at
-the first N calls with ZA on. Where the emulator has the command abi-check its answer stands last. SMEMU may name the emulator.
+the first N calls with ZA on. What abi-check says of the thread stands last. SMEMU may name the emulator.
 """
 import argparse
 import collections
@@ -26,7 +26,6 @@ import recorded
 CALL = re.compile(r"^([0-9a-f]{16}) [0-9a-f]{8} (blr? .*)", re.MULTILINE)
 KINDS = ("kept", "saved", "restored", "shared", "changed", "lost")
 FAULTS = ("changed", "lost")
-USAGE = 2
 
 
 class Side:
@@ -178,11 +177,11 @@ def lines_of(calls, known, show_all):
 
 
 def abi_check(words):
-    """What abi-check says, or None where the emulator has no such command."""
+    """What abi-check says."""
     try:
         return emulator.call([emulator.find(), "abi-check", words.program, words.report, words.thread]).decode().strip()
     except emulator.Refused as fault:
-        return None if fault.status == USAGE else str(fault)
+        return str(fault)
 
 
 def main():
@@ -208,9 +207,7 @@ def main():
     print(f"calls {number}, with ZA on {len(calls)}" + (" and more, which were not looked at" if is_cut else "") + ": " + ", ".join(texts))
     if not listing:
         print("the program has no section table, so its calls are not known")
-    said = abi_check(words)
-    if said is not None:
-        print(f"abi-check: {said}")
+    print(f"abi-check: {abi_check(words)}")
     return 1 if any(counts[kind] for kind in FAULTS) else 0
 
 
