@@ -1,0 +1,4 @@
+pub mod Chains
+pub mod Blocks
+pub mod Listed
+pub mod Faults

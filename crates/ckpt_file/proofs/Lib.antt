@@ -1,0 +1,13 @@
+pub mod Filling
+pub mod Parts
+pub mod Modes
+pub mod LooseGood
+pub mod Sized
+pub mod Registers
+pub mod FromFields
+pub mod Puts
+pub mod One
+pub mod RunKept
+pub mod Kept
+pub mod Filled
+pub mod RunGood

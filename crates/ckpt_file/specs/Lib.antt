@@ -1,0 +1,4 @@
+pub mod Checkpoint
+pub mod Putting
+pub mod Loose
+pub mod Beyond
