@@ -138,6 +138,8 @@ class Alone(Thread):
         raise Calls
 
     def execute(self, word):
+        if expected_others.has_no_row(word):
+            return None
         target = super().execute(word)
         return expected_others.execute(word, self) if target is None else target
 

@@ -1,9 +1,9 @@
 """Instructions that no program of this repository uses, for expected_answers.py: the other scalar ones, and those of SVE and SVE2, as DDI 0487 describes them.
 
 `execute` gives the address of the next instruction, and None where the word is none of these. With those of expected.py and of the modules
-beside it these are all instructions that the emulator has.
+beside it these are all instructions that the emulator has; `has_no_row` tells which words the interpreters would take and the tables have not.
 """
-from expected_compiled import ones, shifted
+from expected_compiled import mask_of, ones, shifted
 from expected_vectors import signed
 
 
@@ -384,6 +384,32 @@ ROWS = (
     (0xFF3CFC00, 0x05303800, unpack), (0xFF3CE000, 0x04182000, reduce), (0xFF200000, 0x24000000, compare), (0xFF20C000, 0x25000000, compare_number),
     (0xFFFFC21F, 0x2550C000, test), (0xFF30C000, 0x25004000, logical_predicates), (0xFF20F000, 0x04206000, multiply), (0xFF20F800, 0x04203800, ternary),
     (0xFF20F000, 0x45000000, long_sum))
+
+
+# ---- words without a row
+
+
+def turns_further(word):
+    """A logical immediate that is turned by more than its element has bits."""
+    low = bits(word, 22, 22) << 6 | bits(word, 15, 10) ^ 63
+    return mask_of(word, 64 if word >> 31 else 32) is not None and bits(word, 21, 16) >> low.bit_length() - 1 != 0
+
+
+def pair_of_one(word):
+    """A load of a pair into one register, or a pair whose base is written and is one of them."""
+    rt, rn, second = bits(word, 4, 0), bits(word, 9, 5), bits(word, 14, 10)
+    return bits(word, 22, 22) and rt == second or bits(word, 23, 23) and rn != 31 and rn in (rt, second)
+
+
+NO_ROWS = (
+    (0x1F800000, 0x12000000, turns_further), (0xFF600000, 0x9B400000, lambda word: bits(word, 15, 10) != 31), (0x7E000000, 0x28000000, pair_of_one),
+    (0x3F200400, 0x38000400, lambda word: bits(word, 4, 0) == bits(word, 9, 5) != 31), (0xFE00E000, 0xA4004000, lambda word: bits(word, 20, 16) == 31),
+    (0xFE00E000, 0xE4004000, lambda word: bits(word, 20, 16) == 31 and bits(word, 24, 23) <= bits(word, 22, 21)), (0xFF30FC00, 0x0420E400, lambda word: True))
+
+
+def has_no_row(word):
+    """The conditions on fields that the interpreters do not look at; some are those of this emulator's tables alone."""
+    return any(word & mask == value and condition(word) for mask, value, condition in NO_ROWS)
 
 
 def execute(word, thread):
