@@ -1,6 +1,7 @@
 //! The state of a thread as a file: what is written, and read back, and where it is refused.
-ghost use Rattle.std.specs.Prelude.{◌≡◌, ◌<◌, None, IfOk, true};
+ghost use Rattle.std.specs.Prelude.{◌≡◌, None, IfOk, true};
 ghost use Rattle.kernel_contexts.specs.Context.{is_home, stop_of};
+ghost use Rattle.kernel_contexts.specs.Loose.{loose_stop};
 
 use crate::memory::FILE;
 use ckpt_file::{CkptFault, read_ckpt, write_ckpt};
@@ -39,14 +40,20 @@ fn report(alloc: Global) -> Result<Report, AllocError> {
 /// The thread of `movz x0, #42`, `movz x8, #93` and `svc #0` after one instruction, with a page of code.
 fn thread(rt: &impl Stops, alloc: Global) -> Context
     ensures home { is_home result ≡ true }
+    ensures runs { stop_of result ≡ None }
 {
     let mut file = FILE;
     file[56] = 1;
     file[176..184].copy_from_slice(&[0x40, 0x05, 0x80, 0xd2, 0xa8, 0x0b, 0x80, 0xd2]);
     let image = load(alloc, &file).ok().expect(rt, "an accepted file");
-    run_to(alloc, &image, &Config::defaults(), 0, &[], 1)
+    let context = run_to(alloc, &image, &Config::defaults(), 0, &[], 1)
         .ok()
-        .expect(rt, "a run")
+        .expect(rt, "a run");
+    let running = match context.stop() {
+        None => Some(context),
+        Some(_) => None,
+    };
+    running.expect(rt, "a thread that goes on")
 }
 
 /// Its file.
@@ -57,7 +64,9 @@ fn file(rt: &impl Stops, alloc: Global) -> Vec<u8> {
 }
 
 /// What is read of a file.
-fn read(rt: &impl Stops, alloc: Global, file: &[u8]) -> Result<Loose, CkptFault> {
+fn read(rt: &impl Stops, alloc: Global, file: &[u8]) -> Result<Loose, CkptFault>
+    ensures { IfOk result (λ l. loose_stop l ≡ None) }
+{
     let report = report(alloc).ok().expect(rt, "room");
     read_ckpt(alloc, file, &report)
 }
@@ -66,7 +75,7 @@ fn read(rt: &impl Stops, alloc: Global, file: &[u8]) -> Result<Loose, CkptFault>
 fn a_checkpoint_is_read_back(rt: HostRuntime) {
     let alloc = rt.alloc();
     let file = file(&rt, alloc);
-    assert_eq!(rt; file.len(), 267_791);
+    assert!(rt; file.len() == 267_791);
     let loose = read(&rt, alloc, file.as_slice())
         .ok()
         .expect(&rt, "a state");
@@ -86,9 +95,10 @@ fn a_checkpoint_is_read_back(rt: HostRuntime) {
 fn a_bad_field_is_told_by_its_offset(rt: HostRuntime) {
     let alloc = rt.alloc();
     let mut file = file(&rt, alloc);
-    let cut = &file.as_slice()[..267_790];
+    let mut cut = file.clone().ok().expect(&rt, "room");
+    assert!(rt; cut.pop().is_some());
     assert_eq!(rt;
-        read(&rt, alloc, cut).err(),
+        read(&rt, alloc, cut.as_slice()).err(),
         Some(CkptFault::Field(263_695))
     );
     assert!(rt; file.push(0).is_ok());
@@ -118,6 +128,30 @@ fn a_bad_field_is_told_by_its_offset(rt: HostRuntime) {
         let mut other = file.clone().ok().expect(&rt, "room");
         assert!(rt; place < other.len());
         other[place] = byte;
+        assert_eq!(rt;
+            read(&rt, alloc, other.as_slice()).err(),
+            Some(CkptFault::Field(offset))
+        );
+    }
+}
+
+#[test]
+fn a_number_alone_is_no_list(rt: HostRuntime) {
+    let alloc = rt.alloc();
+    let file = file(&rt, alloc);
+    // as many handlers, bytes of output and pages as there may be, in a file that ends there
+    let cases = [
+        (954, [62, 0, 0, 0]),
+        (958, [0, 0, 16, 0]),
+        (962, [0, 16, 0, 0]),
+    ];
+    for (place, number) in cases {
+        assert!(rt; place < file.len());
+        let mut other = Vec::from_slice(alloc, &file.as_slice()[..place])
+            .ok()
+            .expect(&rt, "room");
+        assert!(rt; other.extend_from_slice(&number).is_ok());
+        let offset = place as u64 + 4;
         assert_eq!(rt;
             read(&rt, alloc, other.as_slice()).err(),
             Some(CkptFault::Field(offset))
