@@ -25,6 +25,9 @@ stopped-ends s e = cc
 stopped-differs : (s : Stop) → Stopped s ≡ TraceDiffers → ⊥
 stopped-differs s e = cc
 
+stopped-needs : (s : Stop) → Stopped s ≡ NeedsBank → ⊥
+stopped-needs s e = cc
+
 pub stops_at : (o : Option Stop) (r : Refusals) (old new : Context) (turn : Turn) (s : Stop) → TurnsOrStays o r old new turn → turn ≡
     Stopped s
     → stop_of new ≢ None
@@ -41,6 +44,10 @@ module _ (r : Refusals) (allowed : (op : SharedOp) → IsAllowed r op) (old new 
   pub goes : (o : Option Stop) (turn : Turn) → TurnsOrStays o r old new turn → turn ≢ TraceEnds
   goes None turn h e = asks_nothing _ _ (λ op x. (allowed op).0 x) (subst (TurnsOrStays None r old new) e h).0
   goes (Some t) turn h e = stopped-ends t (sym h.0 ∙ e)
+
+  pub at_home : (o : Option Stop) (turn : Turn) → TurnsOrStays o r old new turn → turn ≢ NeedsBank
+  at_home None turn h e = subst (TurnsOrStays None r old new) e h
+  at_home (Some t) turn h e = stopped-needs t (sym h.0 ∙ e)
 
   pub agrees : (o : Option Stop) (turn : Turn) → TurnsOrStays o r old new turn → turn ≢ TraceDiffers
   agrees None turn h e = asks_nothing _ _ (λ op x. (allowed op).1 x) (subst (TurnsOrStays None r old new) e h).0

@@ -1,8 +1,9 @@
 //! What the workers leave.
-ghost use Rattle.std.specs.Prelude.{◌≡◌, ◌≢◌, ◌<◌, ℕ, true, All, length, IfOk, OnOk};
+ghost use Rattle.std.specs.Prelude.{◌≡◌, ◌≢◌, ◌<◌, ◌≤◌, ◌+◌, ◌*◌, ℕ, true, All, length, IfOk, OnOk};
 ghost use Rattle.crossbeam_queue.specs.Passes.{view};
 ghost use Rattle.sm_types.specs.declared.shared_op.SharedOp.{SharedOp};
 ghost use Rattle.shared_region.specs.Tickets.{IsAllowed};
+ghost use Rattle.kernel_contexts.specs.Context.{config_of, state_of};
 ghost use Rattle.run_queue.specs.Ticketed.{ticketed};
 ghost use Rattle.thread_lists.specs.Counts.{occurrences, once_below};
 ghost use Rattle.run_queue.specs.Passes.{is_numbered, given_in, known_threads, AreAllBack};
@@ -94,13 +95,21 @@ fn advance<P: Port>(whole: &mut Whole<P>, port: &mut P) -> Turn
         → HasStopped (ticketed whole.new.context (P.tells whole.new.ticket)) }
     ensures ends { result ≢ Turn.TraceEnds }
     ensures strays { result ≢ Turn.TraceDiffers }
+    ensures bank { result ≢ Turn.NeedsBank }
+    ensures config { config_of whole.new.context ≡ config_of whole.old.context }
+    ensures made { result ≡ Turn.Ran
+        → (state_of whole.new.context).turns ≡ (state_of whole.old.context).turns + 1 }
+    ensures yielded { result ≡ Turn.Yielded
+        → (state_of whole.new.context).turns ≡ (state_of whole.old.context).turns + 1 }
+    ensures few { (state_of whole.new.context).turns ≤ 64 * (config_of whole.new.context).budget }
 {
     let Whole { context, ticket } = whole;
     context.advance(port, ticket)
 }
 
-/// Makes turns up to the stop. `Memory` is want of memory.
-fn run_to_stop<P: Port, R: Wait>(rt: &R, whole: &mut Whole<P>, port: &mut P) -> Result<(), Memory>
+/// Makes turns up to the stop. It waits for nothing, and ends, since a thread has few turns. `Memory` is want
+/// of memory.
+fn run_to_stop<P: Port>(whole: &mut Whole<P>, port: &mut P) -> Result<(), Memory>
     requires goes { (p : P) (t : P.Ticket) (op : SharedOp) → IsAllowed (P.refuses p t) op }
     requires belongs { (P.tells whole.old.ticket).name ≡ P.name port.old }
     ensures name { P.name port.new ≡ P.name port.old }
@@ -108,15 +117,14 @@ fn run_to_stop<P: Port, R: Wait>(rt: &R, whole: &mut Whole<P>, port: &mut P) -> 
         (ticketed whole.new.context (P.tells whole.new.ticket)) }
     ensures stopped { OnOk result (HasStopped (ticketed whole.new.context (P.tells whole.new.ticket))) }
 {
-    for _ in rt.forever() {
+    'turns: loop {
         match advance(whole, port) {
             Turn::Stopped(_) => return Ok(()),
             Turn::Memory => return Err(Memory),
-            Turn::TraceEnds | Turn::TraceDiffers => unreachable!(),
-            _ => {}
+            Turn::Ran | Turn::Yielded => {}
+            Turn::NeedsBank | Turn::TraceEnds | Turn::TraceDiffers => unreachable!(),
         }
     }
-    unreachable!()
 }
 
 /// Takes what the queue still has, with all passes back, and runs it to its stop: each thread is then there.
@@ -145,7 +153,7 @@ pub fn drain<P: Port, R: Wait>(
         let Some(mut whole) = queue.fetch(rt, pass) else {
             return Ok(());
         };
-        run_to_stop(rt, &mut whole, port)?;
+        run_to_stop(&mut whole, port)?;
         all.push_reserved(whole);
     }
     unreachable!()

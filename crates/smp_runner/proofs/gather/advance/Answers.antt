@@ -1,6 +1,6 @@
 use Rattle.std.proofs.Common.{ap}
 use Rattle.run_queue.specs.Ticketed.{origin_from}
-use Rattle.smp_runner.proofs.Ends.{stops_at, goes, agrees}
+use Rattle.smp_runner.proofs.Ends.{stops_at, goes, agrees, at_home}
 use Rattle.smp_runner.proofs.gather.advance.Goals as goal
 
 pub returns-clause-same : goal.returns-clause-same
@@ -14,6 +14,9 @@ returns-clause-stopped g c s is = stops_at _ _ _ _ _ s c.advance.ensures.turn is
 
 pub returns-clause-ends : goal.returns-clause-ends
 returns-clause-ends g c is = goes _ (λ op. c.requires.goes _ _ op) _ _ _ _ c.advance.ensures.turn is
+
+pub returns-clause-bank : goal.returns-clause-bank
+returns-clause-bank g c is = at_home _ (λ op. c.requires.goes _ _ op) _ _ _ _ c.advance.ensures.turn is
 
 pub returns-clause-strays : goal.returns-clause-strays
 returns-clause-strays g c is = agrees _ (λ op. c.requires.goes _ _ op) _ _ _ _ c.advance.ensures.turn is
