@@ -1,5 +1,5 @@
 -- A thread that is followed over its run, and what is told of it.
-use Rattle.std.proofs.Common.{inl, inr, ◌≡◌, ℕ, zero, suc, ◌+◌, ◌<◌, ◌≤◌, ◌^◌, List, [], ◌∷◌, ◌++◌, length, refl, ap, sym, ◌∙◌}
+use Rattle.std.proofs.Common.{inl, inr, ◌≡◌, ℕ, suc, ◌<◌, ◌≤◌, ◌^◌, List, [], ◌++◌, length, ap, sym, ◌∙◌}
 use Rattle.std.proofs.Common.{arith, subst, Bool, true, false, Option, Some, None}
 use Rattle.std.specs.Prelude.{nat_lt, cond, IfSome, IfNone}
 use Rattle.std.proofs.lemmas.Bool.{cases_Bool}
@@ -9,6 +9,7 @@ use Rattle.sm_types.specs.declared.shared_op.Event.{Event}
 use Rattle.sm_types.specs.declared.stop.Stop.{Stop}
 use Rattle.shared_region.specs.Ports.{ReplayEvents}
 use Rattle.paged_memory.specs.Image.{Program}
+use Rattle.paged_memory.specs.Memory.{AddressSpace}
 use Rattle.kernel_contexts.specs.State.{State, start_state}
 use Rattle.kernel_contexts.specs.Run.{At, Ended, reach}
 use Rattle.kernel_contexts.specs.Context.{state_of, config_of, image_of, thread_of, journal_of}
@@ -19,9 +20,10 @@ use Rattle.lone_runner.proofs.Counted.{IsCounted}
 use Rattle.lone_runner.proofs.Partings.{reach_counts, reach_start, whole_end}
 use Rattle.lone_runner.proofs.Shown.{state_standing}
 use Rattle.lone_runner.proofs.Ways.{way_starts, way_on, next_at, up_to, IsStopped}
-use Rattle.abi_checker.specs.Marks.{IsCall, is_call_word}
+use Rattle.abi_checker.specs.Marks.{is_call_word}
 use Rattle.abi_checker.specs.Faults.{HasFault}
 use Rattle.abi_checker.specs.Checked.{IsChecked, IsTold, states_of}
+use Rattle.abi_checker.specs.Straight.{AreBlocks, KeepsCode}
 use Rattle.abi_checker.specs.Watching.{IsWatched, IsNextCall, IsNoCall, IsPast}
 use Rattle.abi_checker.specs.Following.{IsFollowed, IsUnderWay, IsSomewhereWith}
 use Rattle.abi_checker.specs.declared.abi.Abi.{Abi}
@@ -36,8 +38,9 @@ none_first run NotLawful f = let after = f.return.after in omega (arith, after)
 none_first run NotDormant f = f.marked
 none_first run TooDeep f = f.marked
 
-pub watched_first : (run : ℕ → State) (watch : Watch) → watch.calls.items ≡ [] → watch.returned ≡ 0 → IsWatched run 0 watch
-watched_first run watch e z =
+pub watched_first : (run : ℕ → State) (watch : Watch) → watch.calls.items ≡ [] → watch.returned ≡ 0
+    → ((m : AddressSpace) → AreBlocks watch.near m watch.blocks.known) → IsWatched run 0 watch
+watched_first run watch e z known =
     let short : length watch.calls.items ≡ 0 = ap (λ l. length l) e in
     record {
       none = λ m kind within.
@@ -47,6 +50,7 @@ watched_first run watch e z =
       few = omega (arith, short);
       counted = omega (arith, short, z);
       near = λ k d less. absurd (omega (arith, less, short));
+      known = known (run 0).core.memory;
     }
 
 -- ---- the call that stood at PC
@@ -54,7 +58,7 @@ watched_first run watch e z =
 differ : (b : Bool) → b ≡ true → b ≡ false → ⊥
 differ b e f = let no : true ≡ false = sym e ∙ f in cc
 
-past_counted : (s t : State) (call : Option ℕ) → IfSome call (λ past. IsNextCall s past) → IfNone call (IsNoCall s)
+pub past_counted : (s t : State) (call : Option ℕ) → IfSome call (λ past. IsNextCall s past) → IfNone call (IsNoCall s)
     → t.count ≡ suc s.count → IsPast s t call
 past_counted s t (Some past) some none counted =
     (record { word = some.word; there = some.there; calls = some.calls; counted = counted }, some.place)
@@ -144,11 +148,12 @@ module _ (program : Program) (config : Config) (thread : ℕ) (journal : List Ev
       → IfSome call (λ past. IsNextCall (state_of old) past) → IfNone call (IsNoCall (state_of old))
       → first ≡ (state_of old).count → now ≡ (state_of new).count → past ≡ cond (nat_lt first now) call None
       → ((run : ℕ → State) (n : ℕ) → IsUnderWay run n watch found → run (suc n) ≡ state_of new
-      → IsPast (run n) (run (suc n)) past → (run n).count ≤ (run (suc n)).count → IsUnderWay run (suc n) later told)
+      → IsPast (run n) (run (suc n)) past → (run n).count ≤ (run (suc n)).count
+      → (false ≡ true → KeepsCode (run n).core.memory (run (suc n)).core.memory) → IsUnderWay run (suc n) later told)
       → IsUnderWay run (suc here) later told
   told_on new after stop call past first now later told e some none f g p tells =
       tells run here h.told (next_state new after stop e) (past_here new after stop call past first now e some none f g p)
-      next_counts.least
+      next_counts.least (λ no. cc)
 
   pub checked : (new : Context) (after : ReplayEvents) (stop : Stop) (abi : Abi)
       → next_place old before ≡ place_of new after (Some stop)
@@ -169,10 +174,10 @@ module _ (program : Program) (config : Config) (thread : ℕ) (journal : List Ev
       }
 
 pub followed_first : (count : ℕ) (context : Context) (ticket : ReplayEvents) (watch : Watch) → IsAtStart context ticket
-    → watch.calls.items ≡ [] → watch.returned ≡ 0
+    → watch.calls.items ≡ [] → watch.returned ≡ 0 → ((m : AddressSpace) → AreBlocks watch.near m watch.blocks.known)
     → IsFollowed (image_of context) (config_of context) (thread_of context) ticket.ahead count context ticket watch None
 unfolding way_starts
-followed_first count context ticket watch h e z =
+followed_first count context ticket watch h e z known =
     let program = image_of context in
     let config = config_of context in
     let thread = thread_of context in
@@ -185,7 +190,7 @@ followed_first count context ticket watch h e z =
             ticket.ahead,
             ap (λ n. reach program config thread ticket.ahead n) zero ∙ reach_start program config thread ticket.ahead,
           );
-      told = watched_first (states_of program config thread ticket.ahead) watch e z;
+      told = watched_first (states_of program config thread ticket.ahead) watch e z known;
     }
 
 -- at a stop, or none

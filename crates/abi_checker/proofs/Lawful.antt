@@ -5,15 +5,13 @@ use Rattle.std.specs.Prelude.{is_some, IsSome, slice_index_or, unwrap_or}
 use Rattle.std.specs.FinMap.{get}
 use Rattle.std.proofs.lemmas.List.{length-map, length_push}
 use Rattle.std.proofs.lemmas.Nat.{row_fits}
-use Rattle.lone_runner.proofs.Partings.{compared}
-use Rattle.scalar_exec.specs.Registers.{x_of}
 use Rattle.paged_memory.specs.Memory.{AddressSpace, IsWhole, byte_with, bytes_with, and_byte, permits, permitted, first_without, run_of}
 use Rattle.sve_vectors.specs.Layout.{items_of}
 use Rattle.za_array.specs.Array.{IsSquare}
 use Rattle.sve_access.specs.After.{read_bytes}
 use Rattle.machine_step.specs.ProcessorState.{ProcessorState}
 use Rattle.kernel_contexts.specs.State.{State}
-use Rattle.lazy_saving.specs.Block.{IsBlock, IsBuffer, buffer_of, saved_of, slices_of}
+use Rattle.lazy_saving.specs.Block.{buffer_of, saved_of, slices_of}
 use Rattle.lazy_saving.specs.Dormant.{Places, IsDormantAt, IsLawful, IsSaved, HasSameBytes, HasSamePages, buffer_size}
 use Rattle.lazy_saving.specs.Dormant as scheme
 use Rattle.lazy_saving.proofs.Lawful.{byte_same, bytes_same, without_same}

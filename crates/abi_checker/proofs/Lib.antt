@@ -11,3 +11,10 @@ pub mod Went
 pub mod Settled
 pub mod Lawful
 pub mod Rows
+pub mod Classes
+pub mod Plain
+pub mod Planned
+pub mod Executed
+pub mod Staying
+pub mod Quiet
+pub mod AtOnce

@@ -1,12 +1,11 @@
 -- A map as the list of its entries, and the byte of a page.
-use Rattle.std.proofs.Common.{◌≡◌, ◌≢◌, ℕ, zero, suc, ◌+◌, ◌*◌, ◌/◌, ◌%◌, ◌<◌, ◌≤◌, List, [], ◌∷◌, ◌++◌, length, get_or, take, drop, refl, ap, sym}
-use Rattle.std.proofs.Common.{◌∙◌, arith, add-one, true, false, Bool, Option, Some, None, slice_get}
+use Rattle.std.proofs.Common.{◌≡◌, ◌≢◌, ℕ, zero, suc, ◌+◌, ◌/◌, ◌%◌, ◌<◌, ◌≤◌, List, [], ◌∷◌, ◌++◌, length, get_or, take, drop, refl, ap, sym}
+use Rattle.std.proofs.Common.{◌∙◌, arith, add-one, true, false, Option, Some, None, slice_get}
 use Rattle.std.specs.Prelude.{cond, ◌==◌, is_some, unwrap_or}
-use Rattle.std.specs.FinMap.{FinMap, get, entries, find, get-entries, len, len-entries}
+use Rattle.std.specs.FinMap.{FinMap, get, find}
 use Rattle.std.specs.Ordering.{nat_cmp, eq_by_cmp}
-use Rattle.std.specs.Int.Bits.{bit_and, and_zero_r}
+use Rattle.std.specs.Int.Bits.{and_zero_r}
 use Rattle.std.proofs.lemmas.Bool.Decides.{nat_tests}
-use Rattle.std.proofs.lemmas.Option.{get_or_from_slice_get}
 use Rattle.paged_memory.specs.Memory.{AddressSpace, IsWhole, permitted, permits, byte_with, bytes_from}
 
 key_same : (q k : ℕ) → k ≡ q → eq_by_cmp nat_cmp q k ≡ true

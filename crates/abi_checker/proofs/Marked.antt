@@ -1,7 +1,6 @@
 -- The mark at a tail, where one of its words is known.
 use Rattle.std.proofs.Common.{◌≡◌, ℕ, ℤ, ◌+◌, ◌-◌, ◌%◌, ◌^◌, refl, ap, sym, ◌∙◌, subst, Option, Some, None, true}
 use Rattle.std.specs.Prelude.{unwrap_or}
-use Rattle.sm_types.specs.declared.insn.Insn.{Insn}
 use Rattle.sm_types.specs.declared.insn.Insn.TheVariants as insn
 use Rattle.sm_types.specs.declared.insn.Branch.TheVariants as branch
 use Rattle.a64_encode.specs.Either.{instruction_of}

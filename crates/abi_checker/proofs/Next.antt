@@ -1,9 +1,8 @@
 -- What is told of the next state of a run.
-use Rattle.std.proofs.Common.{◌⊎◌, inl, inr, ◌≡◌, ℕ, zero, suc, ◌+◌, ◌<◌, ◌≤◌, List, [], ◌∷◌, ◌++◌, length, filter, refl, ap, sym, ◌∙◌}
-use Rattle.std.proofs.Common.{arith, subst, Bool, true, false, Option, Some, None}
+use Rattle.std.proofs.Common.{inl, inr, ◌≡◌, ℕ, suc, ◌+◌, ◌<◌, ◌≤◌, List, [], ◌∷◌, ◌++◌, length, filter, refl, ap, sym, ◌∙◌}
+use Rattle.std.proofs.Common.{arith, subst, Bool, true, false}
 use Rattle.std.specs.Prelude.{not, ◌==◌, ◌&&◌}
 use Rattle.std.specs.List.{All, Contains}
-use Rattle.std.proofs.lemmas.List.{length_push}
 use Rattle.std.proofs.lemmas.List.Elements.{All-contains}
 use Rattle.std.proofs.lemmas.List.Filters.{length-filter_both}
 use Rattle.std.proofs.lemmas.Bool.Decides.{nat_tests}
@@ -11,13 +10,12 @@ use Rattle.kernel_contexts.specs.State.{State}
 use Rattle.lazy_saving.specs.Dormant.{Places, IsDormantAt, IsLawful}
 use Rattle.za_routines.specs.Places.{places_of}
 use Rattle.lone_runner.proofs.Partings.{compared}
-use Rattle.abi_checker.specs.Marks.{IsCall, IsMarkedCall, IsBackFrom, past_call}
-use Rattle.abi_checker.specs.Numbers.{NumberOf}
-use Rattle.abi_checker.specs.Faults.{IsMarkedAt, IsReturn, IsOpen, HasFault, IsFirstFault, ReturnsUnlawfully, CallsUndormant}
-use Rattle.abi_checker.specs.Faults.{CallsTooDeep, AreLawful, block_of, order_of}
+use Rattle.abi_checker.specs.Marks.{IsBackFrom}
+use Rattle.abi_checker.specs.Faults.{IsMarkedAt, IsReturn, IsOpen, HasFault, IsFirstFault, ReturnsUnlawfully}
+use Rattle.abi_checker.specs.Faults.{AreLawful, block_of, order_of}
 use Rattle.abi_checker.specs.Keeping.{IsKept}
 use Rattle.abi_checker.specs.Returning.{is_back, IsFine, IsUnlawful}
-use Rattle.abi_checker.specs.Watching.{IsHeld, IsWalked, IsMarkedPast, IsPast}
+use Rattle.abi_checker.specs.Watching.{IsHeld, IsWalked}
 use Rattle.abi_checker.specs.declared.abi.AbiKind.{AbiKind}
 use Rattle.abi_checker.specs.declared.abi.AbiKind.TheVariants.{NotDormant, NotLawful, TooDeep}
 use Rattle.abi_checker.specs.declared.open_call.OpenCall.{OpenCall}

@@ -1,16 +1,16 @@
 -- At most one thing is told of a run.
-use Rattle.std.proofs.Common.{◌⊎◌, inl, inr, ◌≡◌, ℕ, zero, suc, ◌<◌, ◌≤◌, List, [], refl, ap, sym, ◌∙◌, arith, subst}
+use Rattle.std.proofs.Common.{inl, inr, ◌≡◌, ℕ, zero, suc, ◌<◌, List, [], refl, ap, sym, ◌∙◌, arith, subst}
 use Rattle.sm_types.specs.declared.config.Config.{Config}
 use Rattle.sm_types.specs.declared.shared_op.Event.{Event}
 use Rattle.sm_types.specs.declared.stop.Stop.{Stop}
 use Rattle.paged_memory.specs.Image.{Program}
 use Rattle.kernel_contexts.specs.State.{State}
-use Rattle.kernel_contexts.specs.Run.{Reached, At, Ended, reach}
+use Rattle.kernel_contexts.specs.Run.{Reached, At, Ended}
 use Rattle.lone_runner.specs.Parting.{EndsAt}
 use Rattle.lone_runner.proofs.Partings.{compared}
 use Rattle.abi_checker.specs.Numbers.{NumberOf}
 use Rattle.abi_checker.specs.Faults.{HasReturned, IsOpen, IsFirstFault, order_of}
-use Rattle.abi_checker.specs.Checked.{IsChecked, IsTold, IsFaultless, IsFaulty, states_of}
+use Rattle.abi_checker.specs.Checked.{IsChecked, IsTold, states_of}
 use Rattle.abi_checker.specs.declared.abi.Abi.{Abi}
 use Rattle.abi_checker.specs.declared.abi.Abi.TheVariants.{Yes, No}
 use Rattle.abi_checker.specs.declared.abi.AbiKind.{AbiKind}

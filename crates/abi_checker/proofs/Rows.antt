@@ -1,6 +1,6 @@
 -- The rows of ZA that are kept of a call.
-use Rattle.std.proofs.Common.{◌≡◌, ℕ, ◌+◌, ◌*◌, ◌%◌, ◌^◌, ◌<◌, ◌≤◌, List, [], length, get_or, Some, ap, sym, ◌∙◌, arith, Bool, true, false, subst}
-use Rattle.std.specs.Prelude.{slice_index_or, IsTrue}
+use Rattle.std.proofs.Common.{◌≡◌, ℕ, ◌+◌, ◌*◌, ◌%◌, ◌^◌, ◌<◌, ◌≤◌, List, [], length, Some, ap, sym, ◌∙◌, arith, subst}
+use Rattle.std.specs.Prelude.{slice_index_or}
 use Rattle.std.proofs.Common.{Vec, Global, inl, inr}
 use Rattle.lone_runner.proofs.Partings.{compared}
 use Rattle.std.proofs.lemmas.List.{length-map}
@@ -8,7 +8,7 @@ use Rattle.std.proofs.lemmas.Nat.{row_fits, mul-le}
 use Rattle.paged_memory.specs.Memory.{AddressSpace, bytes_with}
 use Rattle.sve_vectors.specs.Layout.{items_of}
 use Rattle.kernel_contexts.specs.State.{State}
-use Rattle.lazy_saving.specs.Block.{buffer_of, saved_of, slices_of}
+use Rattle.lazy_saving.specs.Block.{buffer_of, saved_of}
 use Rattle.abi_checker.specs.Keeping.{IsKept}
 use Rattle.abi_checker.specs.Returning.{IsOfSome}
 use Rattle.abi_checker.specs.declared.open_call.OpenCall.{OpenCall}

@@ -1,7 +1,6 @@
 -- Calls of which none is back, and what is told of them.
 use Rattle.std.proofs.Common.{◌≡◌, ℕ, zero, suc, ◌+◌, ◌<◌, subst, List, [], ◌∷◌, length, get_or, filter, cond, refl, ap, sym, ◌∙◌, arith, Bool, true, false}
-use Rattle.std.specs.Prelude.{not, ◌==◌, ◌&&◌, ◌++◌, slice_index_or, slice_set}
-use Rattle.std.specs.List.{All}
+use Rattle.std.specs.Prelude.{not, ◌==◌, ◌++◌, slice_index_or, slice_set}
 use Rattle.std.proofs.lemmas.List.{get_or-set_same, get_or-set_other}
 use Rattle.std.proofs.lemmas.List.Elements.{All-push}
 use Rattle.std.proofs.lemmas.Bool.{cases_Bool}
@@ -9,7 +8,8 @@ use Rattle.std.proofs.Common.{inl, inr}
 use Rattle.kernel_contexts.specs.State.{State}
 use Rattle.lone_runner.proofs.Partings.{compared}
 use Rattle.abi_checker.specs.Returning.{is_back, IsFine}
-use Rattle.abi_checker.specs.Watching.{AreNear, Settles, is_near, slot_of}
+use Rattle.abi_checker.specs.Watching.{AreNear, Settles}
+use Rattle.abi_checker.specs.Near.{is_near, slot_of}
 use Rattle.abi_checker.specs.declared.open_call.OpenCall.{OpenCall}
 use Rattle.abi_checker.specs.declared.watch.Watch.{Watch}
 use Rattle.abi_checker.proofs.Next.{both, equal}
@@ -48,6 +48,7 @@ none_settles r old near here = record {
       (λ k d l. kept (is_back r (get_or old.calls.items k d)) (away r old.near (get_or old.calls.items k d) (near k d l) here));
   all = refl;
   near = near;
+  known = λ m h. h;
 }
 
 -- ---- the calls up to one place more

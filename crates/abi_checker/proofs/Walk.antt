@@ -1,5 +1,5 @@
 -- The marked calls of a run, from one state to the next.
-use Rattle.std.proofs.Common.{◌⊎◌, inl, inr, ◌≡◌, ◌↔◌, ℕ, zero, suc, ◌+◌, ◌<◌, ◌≤◌, List, [], ◌∷◌, ◌++◌, length, filter, refl, ap, sym, ◌∙◌}
+use Rattle.std.proofs.Common.{◌⊎◌, inl, inr, ◌≡◌, ℕ, zero, suc, ◌+◌, ◌<◌, ◌≤◌, List, [], ◌∷◌, ◌++◌, length, filter, refl, ap, sym, ◌∙◌}
 use Rattle.std.proofs.Common.{arith, subst, Bool, true, false, cond, ◌-◌}
 use Rattle.std.specs.Prelude.{not}
 use Rattle.std.specs.List.{Contains}
@@ -11,9 +11,9 @@ use Rattle.std.proofs.lemmas.List.Elements.{Contains-push, Contains-push_cases, 
 use Rattle.kernel_contexts.specs.State.{State}
 use Rattle.lazy_saving.specs.Dormant.{Places}
 use Rattle.za_routines.specs.Places.{places_of}
-use Rattle.abi_checker.specs.Marks.{IsMarkedCall, IsBackFrom}
+use Rattle.abi_checker.specs.Marks.{IsBackFrom}
 use Rattle.abi_checker.specs.Numbers.{NumberOf}
-use Rattle.abi_checker.specs.Faults.{IsMarkedAt, IsReturn, HasReturned, IsOpen}
+use Rattle.abi_checker.specs.Faults.{IsMarkedAt, HasReturned, IsOpen}
 use Rattle.abi_checker.specs.Watching.{IsHeld, IsWalked}
 use Rattle.abi_checker.specs.declared.open_call.OpenCall.{OpenCall}
 use Rattle.abi_checker.proofs.OneMark.{one_mark}

@@ -1,9 +1,8 @@
 -- A word in memory, whatever its permission.
-use Rattle.std.proofs.Common.{◌≡◌, ℕ, zero, suc, ◌+◌, ◌%◌, ◌^◌, ◌<◌, List, [], ◌∷◌, length, refl, ap, sym, ◌∙◌, arith, Some, None, Option, Bool}
+use Rattle.std.proofs.Common.{◌≡◌, ℕ, zero, suc, ◌+◌, ◌%◌, ◌^◌, ◌<◌, List, [], ◌∷◌, refl, ap, sym, ◌∙◌, arith, Some, None, Option, Bool}
 use Rattle.std.proofs.Common.{true, false}
 use Rattle.std.specs.Prelude.{cond, option_map}
 use Rattle.std.specs.Int.{from_le_bytes, w32}
-use Rattle.std.specs.FinMap.{get}
 use Rattle.sm_types.specs.Bytes.{little_number}
 use Rattle.paged_memory.specs.Memory.{AddressSpace, bytes_with, byte_with, and_byte, permitted, permits, word_at}
 use Rattle.abi_checker.specs.Marks.{word_in}
@@ -45,7 +44,7 @@ word_any m a w h = number_any (bytes_with 1 m a 4) (bytes_with 0 m a 4) w (λ bs
 
 -- ---- the word of four bytes
 
-pub of_bytes : Option ℕ → Option ℕ → Option ℕ → Option ℕ → Option ℕ
+unfoldable pub of_bytes : Option ℕ → Option ℕ → Option ℕ → Option ℕ → Option ℕ
 of_bytes a b c d = option_map little_number (and_byte (and_byte (and_byte (and_byte (Some []) a) b) c) d)
 
 pub word_is : (m : AddressSpace) (a : ℕ) (w x y z : Option ℕ) → a < 2 ^ 64 → w ≡ byte_with 0 m a → x ≡ byte_with 0 m ((a + 1) % 2 ^ 64)

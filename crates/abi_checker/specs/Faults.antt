@@ -1,6 +1,6 @@
 -- The returns of marked calls in the states of a run, and the faults of their callees and their callers.
 -- Source: AAPCS64, the ZA lazy saving scheme. How many calls may be open is this project's own.
-use Rattle.std.specs.Prelude.{◌≡◌, ℕ, zero, suc, ◌<◌, ◌≤◌}
+use Rattle.std.specs.Prelude.{ℕ, zero, suc, ◌<◌, ◌≤◌}
 use Rattle.scalar_exec.specs.Registers.{x_of}
 use Rattle.kernel_contexts.specs.State.{State}
 use Rattle.lazy_saving.specs.Dormant.{Places, IsDormantAt, IsLawful}

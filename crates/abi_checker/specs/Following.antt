@@ -1,11 +1,13 @@
 -- A run that is under way, and what is told of it so far.
-use Rattle.std.specs.Prelude.{◌≡◌, ℕ, ◌<◌, ◌≤◌, ◌^◌, List, Option, Some, None}
+use Rattle.std.specs.Prelude.{◌≡◌, ℕ, ◌<◌, ◌≤◌, ◌^◌, true, List, Option, Some, None}
 use Rattle.sm_types.specs.declared.config.Config.{Config}
 use Rattle.sm_types.specs.declared.shared_op.Event.{Event}
 use Rattle.shared_region.specs.Ports.{ReplayEvents}
 use Rattle.paged_memory.specs.Image.{Program}
 use Rattle.kernel_contexts.specs.State.{State}
 use Rattle.kernel_contexts.specs.Run.{At, reach}
+use Rattle.kernel_contexts.specs.Context.{state_of, image_of, config_of, thread_of, stop_of, journal_of, is_home}
+use Rattle.kernel_contexts.specs.Context.{IsSameThread}
 use Rattle.kernel_contexts.specs.declared.context.Context.{Context}
 use Rattle.lone_runner.specs.Way.{IsOnItsWay}
 use Rattle.abi_checker.specs.Checked.{IsFaulty, states_of}
@@ -33,3 +35,18 @@ pub record IsFollowed (program : Program) (config : Config) (thread : ℕ) (jour
   pub goes : (m : ℕ) → m ≤ way.turns → (s : State) × (done : ℕ) × (left : List Event)
       × (reach program config thread journal m ≡ At s done left)
   pub told : IsUnderWay (states_of program config thread journal) way.turns watch found
+
+-- the context's own thread is followed so over some journal
+pub record IsFollowedBySome (count : ℕ) (context : Context) (watch : Watch) (found : Option Abi) : Type 0 where
+  pub journal : List Event
+  pub ticket : ReplayEvents
+  pub followed : IsFollowed (image_of context) (config_of context) (thread_of context) journal count context
+      ticket watch found
+
+-- the thread goes on, home, with the same events, after no fewer turns
+pub record GoesFar (old new : Context) : Type 0 where
+  pub home : is_home new ≡ true
+  pub stop : stop_of new ≡ None
+  pub journal : journal_of new ≡ journal_of old
+  pub same : IsSameThread old new
+  pub more : (state_of old).turns ≤ (state_of new).turns

@@ -4,5 +4,8 @@ pub mod Faults
 pub mod Checked
 pub mod Keeping
 pub mod Returning
+pub mod Near
+pub mod Straight
 pub mod Watching
+pub mod Planning
 pub mod Following

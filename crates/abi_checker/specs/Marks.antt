@@ -2,7 +2,7 @@
 -- that it goes with.
 -- Source: DDI 0487, BL and BLR, B1 (the program's order); AAPCS64, the ZA lazy saving scheme. The words are
 -- this project's own.
-use Rattle.std.specs.Prelude.{◌≡◌, ℕ, ℤ, suc, ◌+◌, ◌*◌, ◌/◌, ◌%◌, ◌-◌, ◌^◌, ◌==◌, ◌&&◌, ◌||◌, Bool, true, List}
+use Rattle.std.specs.Prelude.{◌≡◌, ℕ, ℤ, suc, ◌+◌, ◌/◌, ◌%◌, ◌-◌, ◌^◌, ◌==◌, ◌&&◌, ◌||◌, Bool, true, List}
 use Rattle.std.specs.Prelude.{Option, Some, option_map, slice_get}
 use Rattle.sm_types.specs.Bytes.{little_number}
 use Rattle.sm_types.specs.Routines.{tail_words, restore_words, disable_words}

@@ -1,13 +1,15 @@
 -- The marked calls of a run as far as the code has come, turn by turn.
 use Rattle.std.specs.Prelude.{◌≡◌, ◌⊎◌, ℕ, zero, suc, ◌+◌, ◌<◌, ◌≤◌, ◌^◌, ◌++◌, List, [], ◌∷◌, length, Bool, true, false}
-use Rattle.std.specs.Prelude.{Option, Some, None, ◌/◌, ◌%◌, slice_index_or, not}
+use Rattle.std.specs.Prelude.{Option, Some, None, not}
 use Rattle.std.specs.List.{All, filter}
-use Rattle.paged_memory.specs.Memory.{word_at}
+use Rattle.paged_memory.specs.Memory.{AddressSpace, word_at}
 use Rattle.kernel_contexts.specs.State.{State}
 use Rattle.za_routines.specs.Places.{places_of}
 use Rattle.lazy_saving.specs.Dormant.{Places, IsDormantAt}
 use Rattle.abi_checker.specs.Marks.{HasMark, IsCall, IsBackFrom, is_call_word, past_call}
 use Rattle.abi_checker.specs.Faults.{IsMarkedAt, HasFault, HasReturned, IsFirstFault, AreLawful, block_of}
+use Rattle.abi_checker.specs.Near.{is_near}
+use Rattle.abi_checker.specs.Straight.{AreBlocks}
 use Rattle.abi_checker.specs.Keeping.{IsKept}
 use Rattle.abi_checker.specs.Returning.{is_back, IsFine}
 use Rattle.abi_checker.specs.declared.abi.AbiKind.{AbiKind}
@@ -33,14 +35,6 @@ IsPast s t None = ¬ IsCall s t
 
 -- ---- the places to which calls come back
 
--- which of 64 an address falls to
-abbrev pub slot_of : ℕ → ℕ
-slot_of pc = pc / 4 % 64
-
--- a call may come back to an address that falls there
-abbrev pub is_near : List Bool → ℕ → Bool
-is_near near pc = slice_index_or near (slot_of pc) false
-
 -- each call comes back to such a one
 abbrev pub AreNear : List Bool → List OpenCall → Type 0
 AreNear near calls = All (λ call. is_near near call.places.tail ≡ true) calls
@@ -51,6 +45,7 @@ pub record Settles (r : State) (old new : Watch) : Type 0 where
   pub left : new.calls.items ≡ filter (λ call. not (is_back r call)) old.calls.items
   pub all : new.returned + length new.calls.items ≡ old.returned + length old.calls.items
   pub near : AreNear new.near new.calls.items
+  pub known : (m : AddressSpace) → AreBlocks old.near m old.blocks.known → AreBlocks new.near m new.blocks.known
 
 -- ---- a call that the thread came from, and the calls after it
 
@@ -106,6 +101,7 @@ module _ (run : ℕ → State) where
     pub few : length watch.calls.items ≤ 256
     pub counted : watch.returned + length watch.calls.items ≤ (run n).count
     pub near : AreNear watch.near watch.calls.items
+    pub known : AreBlocks watch.near (run n).core.memory watch.blocks.known
 
   -- what is told of the next state, and of the calls by it
   abbrev pub IsToldNext : ℕ → Option AbiKind → Watch → Type 0

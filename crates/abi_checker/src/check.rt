@@ -1,8 +1,13 @@
 //! A run that is checked turn by turn.
-ghost use Rattle.std.specs.Prelude.{◌≡◌, ◌≢◌, ◌<◌, ◌^◌, length, IfOk, IfErr};
+ghost use Rattle.std.specs.Prelude.{◌≡◌, ◌≢◌, ◌<◌, ◌^◌, true, List, [], None, length, nat_lt, if◌then◌else◌};
+ghost use Rattle.std.specs.Prelude.{IfOk, IfErr};
+ghost use Rattle.sm_types.specs.declared.shared_op.Event.{Event};
+ghost use Rattle.shared_region.specs.Ports.{ReplayEvents};
 ghost use Rattle.lone_runner.specs.Parting.{IsParting};
-ghost use Rattle.std.specs.Prelude.{[], nat_lt, if◌then◌else◌};
-ghost use Rattle.kernel_contexts.specs.Context.{config_of, image_of, thread_of};
+ghost use Rattle.kernel_contexts.specs.Context.{config_of, image_of, thread_of, is_home, stop_of};
+ghost use Rattle.paged_memory.specs.Memory.{AddressSpace};
+ghost use Rattle.abi_checker.specs.Straight.{AreBlocks};
+ghost use Rattle.abi_checker.specs.Following.{GoesFar, IsFollowed, IsFollowedBySome};
 ghost use Rattle.lone_runner.specs.Replayed.{IsAtStart};
 ghost use Rattle.abi_checker.specs.Checked.{IsChecked};
 
@@ -13,7 +18,7 @@ use kernel_contexts::Context;
 use lone_runner::{AloneFault, make_turn, parting};
 use paged_memory::Image;
 use shared_region::ReplayTicket;
-use sm_types::{Config, Event};
+use sm_types::{Config, Event, Memory};
 use std::alloc::Global;
 
 /// The address past the call that stood at PC before a turn, if the turn counted it.
@@ -22,6 +27,60 @@ fn call_made(call: Option<u64>, before: u32, now: u32) -> Option<u64>
     ensures { result ≡ (if nat_lt before now then call else None) }
 {
     if before < now { call } else { None }
+}
+
+/// Makes turns at once, one block after another, and tells of the calls in their states, as long as none is at
+/// fault; a call, or another instruction that is of no block, is made by itself. It ends where the next turn may
+/// be more than an instruction, and at the count. `Memory` is want of memory.
+fn go_at_once(context: &mut Context, count: u32, watch: &mut Watch) -> Result<Option<Abi>, Memory>
+    requires home { is_home context.old ≡ true }
+    requires runs { stop_of context.old ≡ None }
+    requires some { IsFollowedBySome count context.old watch.old None }
+    ensures followed { (journal : List Event) (ticket : ReplayEvents)
+        → IsFollowed (image_of context.old) (config_of context.old) (thread_of context.old) journal count
+        context.old ticket watch.old None
+        → IfOk result (λ found. IsFollowed (image_of context.old) (config_of context.old)
+        (thread_of context.old) journal count context.new ticket watch.new found) }
+    ensures goes { GoesFar context.old context.new }
+{
+    'rounds: loop {
+        let left = count - context.count();
+        let next = watch.next_turns(context);
+        let made = context.advance_several(next.most.min(left));
+        if made == 0 {
+            return Ok(None);
+        }
+        let found = watch.tell(context, next.call, next.keeps, None)?;
+        if found.is_some() {
+            return Ok(found);
+        }
+    }
+}
+
+/// Makes turns at once, as far as the count; where a fault was told, nothing more is. `Memory` is want of
+/// memory.
+fn go_far(
+    context: &mut Context,
+    count: u32,
+    watch: &mut Watch,
+    found: Option<Abi>,
+) -> Result<Option<Abi>, Memory>
+    requires home { is_home context.old ≡ true }
+    requires runs { stop_of context.old ≡ None }
+    requires some { IsFollowedBySome count context.old watch.old found }
+    ensures followed { (journal : List Event) (ticket : ReplayEvents)
+        → IsFollowed (image_of context.old) (config_of context.old) (thread_of context.old) journal count
+        context.old ticket watch.old found
+        → IfOk result (λ now. IsFollowed (image_of context.old) (config_of context.old)
+        (thread_of context.old) journal count context.new ticket watch.new now) }
+    ensures goes { GoesFar context.old context.new }
+{
+    if found.is_none() {
+        return go_at_once(context, count, watch);
+    }
+    let left = count - context.count();
+    context.advance_several(left);
+    Ok(found)
 }
 
 /// Makes turns until the thread stops, or parts, and tells of the calls in its states.
@@ -34,6 +93,7 @@ fn follow(
     requires start { IsAtStart context.old ticket.old }
     requires calls { watch.old.calls.items ≡ [] }
     requires returned { watch.old.returned ≡ 0 }
+    requires known { (m : AddressSpace) → AreBlocks watch.old.near m watch.old.blocks.known }
     ensures checked { IfOk result (λ abi. IsChecked (image_of context.old) (config_of context.old)
         (thread_of context.old) ticket.old.ahead count abi) }
     ensures parts { IfErr result (λ fault. fault ≢ AloneFault.Memory
@@ -50,10 +110,11 @@ fn follow(
             None => {}
         }
         let past = call_made(call, before, context.count());
-        found = watch.tell(context, past, found)?;
+        found = watch.tell(context, past, false, found)?;
         if stop.is_some() {
             return Ok(watch.answer(found));
         }
+        found = go_far(context, count, watch, found)?;
     }
 }
 

@@ -4,10 +4,12 @@
 #![tactic(auto)]
 
 mod abi;
+mod blocks;
 mod bytes;
 mod check;
 mod laws;
 mod marks;
+mod near;
 mod open_call;
 mod permissions;
 mod watch;

@@ -23,7 +23,7 @@ use za_routines::RoutinePlaces;
 
 /// Whether a word is that of a BL or a BLR.
 #[inline]
-fn is_call_word(word: u32) -> bool
+pub fn is_call_word(word: u32) -> bool
     ensures { result ≡ marks.is_call_word word }
 {
     word / 0x400_0000 == 0x25 || (word / 0x400 == 0x35_8FC0 && word % 32 == 0)

@@ -4,11 +4,16 @@ ghost use Rattle.std.specs.List.{All, Contains, filter};
 ghost use Rattle.kernel_contexts.specs.Context.{state_of, is_home};
 ghost use Rattle.kernel_contexts.specs.State.{State};
 ghost use Rattle.abi_checker.specs.Returning.{is_back, IsOfSome, IsFine, IsUnlawful};
-ghost use Rattle.abi_checker.specs.Watching.{AreNear, is_near, slot_of};
+ghost use Rattle.abi_checker.specs.Watching.{AreNear};
+ghost use Rattle.abi_checker.specs.Near.{is_near};
+ghost use Rattle.abi_checker.specs.Straight.{AreBlocks, KeepsCode};
+ghost use Rattle.paged_memory.specs.Memory.{AddressSpace};
 ghost use Rattle.abi_checker.specs.declared.open_call.OpenCall.{OpenCall};
 
 use crate::abi::{Abi, AbiKind};
-use crate::marks::mark_at;
+use crate::blocks::{Blocks, Next, keeps_code};
+use crate::marks::{mark_at, next_call};
+use crate::near::{SLOTS, slot_of, slots_of};
 use crate::open_call::OpenCall;
 use kernel_contexts::Context;
 use sm_types::Memory;
@@ -16,29 +21,6 @@ use std::alloc::Global;
 
 /// How many calls may be open at once.
 const OPEN_LIMIT: usize = 256;
-
-/// How many slots addresses fall to.
-const SLOTS: usize = 64;
-
-/// The slot to which an address falls.
-#[inline]
-fn slot_of(address: u64) -> usize
-    ensures value { result ≡ slot_of address }
-    ensures small { result < 64 }
-{
-    (address / 4 % SLOTS as u64) as usize
-}
-
-/// The slots of the tails to which calls come back.
-fn slots_of(calls: &[OpenCall]) -> [bool; SLOTS]
-    ensures { AreNear result calls.now }
-{
-    let mut near = [false; SLOTS];
-    'calls: for index in 0..calls.len() {
-        near[slot_of(calls[index].places.tail)] = true;
-    }
-    near
-}
 
 /// The marked calls of the states of a run so far, at none of which there is a fault.
 #[derive(Drop)]
@@ -50,23 +32,28 @@ pub struct Watch {
     pub returned: u32,
     /// Which slots their tails fall to, and maybe others: at most turns this alone is looked at.
     pub near: [bool; SLOTS],
+    /// Runs of instructions at which nothing is told of them.
+    pub blocks: Blocks,
 }
 
 impl Watch {
     ghost use Rattle.abi_checker.specs.Watching.{AfterCall, IsPast, IsSomewhere, IsToldNext, IsWatched, Settles};
     ghost use Rattle.abi_checker.specs.Following.{IsUnderWay, IsSomewhereWith};
+    ghost use Rattle.abi_checker.specs.Planning.{IsPlanned};
     ghost use Rattle.abi_checker.specs.Checked.{IsTold};
 
     /// No call.
     pub fn new(alloc: Global) -> Watch
         ensures calls { result.calls.items ≡ [] }
         ensures returned { result.returned ≡ 0 }
+        ensures known { (m : AddressSpace) → AreBlocks result.near m result.blocks.known }
     {
         Watch {
             alloc,
             calls: Vec::new(alloc),
             returned: 0,
             near: [false; SLOTS],
+            blocks: Blocks::none(),
         }
     }
 
@@ -106,11 +93,13 @@ impl Watch {
         ensures all { self.new.returned + length self.new.calls.items
             ≡ self.old.returned + length self.old.calls.items }
         ensures near { AreNear self.new.near self.new.calls.items }
+        ensures known { (m : AddressSpace) → AreBlocks self.new.near m self.new.blocks.known }
     {
         let before = self.calls.len();
         self.calls.retain(|call| !call.is_back(context));
         self.returned += (before - self.calls.len()) as u32;
         self.near = slots_of(self.calls.as_slice());
+        self.blocks = Blocks::none();
     }
 
     /// Takes out the calls that return in the state that the thread has come to; tells whether the callee of
@@ -144,6 +133,9 @@ impl Watch {
         ensures after { IfOk result (λ kind.
             AfterCall (state_of context.now) past self.old self.new kind) }
         ensures near { IfOk result (λ kind. AreNear self.new.near self.new.calls.items) }
+        ensures known { IfOk result (λ kind. (m : AddressSpace)
+            → AreBlocks self.old.near m self.old.blocks.known
+            → AreBlocks self.new.near m self.new.blocks.known) }
     {
         let Some(places) = mark_at(&context.machine().pages, past) else {
             return Ok(None);
@@ -156,18 +148,69 @@ impl Watch {
         }
         self.calls.push(call).map_err(|_| Memory)?;
         self.near[slot_of(places.tail)] = true;
+        self.blocks = Blocks::none();
         Ok(None)
     }
 
+    /// Forgets the blocks, unless code that may not be written is as it was.
+    #[inline]
+    fn keep_blocks(&mut self, keeps: bool)
+        ensures known { (before after : AddressSpace) → (keeps ≡ true → KeepsCode before after)
+            → AreBlocks self.old.near before self.old.blocks.known
+            → AreBlocks self.new.near after self.new.blocks.known }
+        ensures calls { self.new.calls ≡ self.old.calls }
+        ensures returned { self.new.returned ≡ self.old.returned }
+        ensures near { self.new.near ≡ self.old.near }
+    {
+        if !keeps {
+            self.blocks = Blocks::none();
+        }
+    }
+
+    /// The turns that are to be made next: those of a block, at none of which is anything told but in the state
+    /// after the last, or one.
+    #[inline]
+    pub fn next_turns(&mut self, context: &Context) -> Next
+        ensures watched { (run : ℕ → State) (n : ℕ) → IsWatched run n self.old
+            → run n ≡ state_of context.now → IsWatched run n self.new }
+        ensures planned { (run : ℕ → State) (n : ℕ) → IsWatched run n self.old
+            → run n ≡ state_of context.now → IsPlanned self.new.near (run n) result }
+    {
+        let machine = context.machine();
+        let block = self
+            .blocks
+            .find(&machine.pages, machine.scalars.pc, &self.near);
+        if block > 0 {
+            return Next {
+                most: block,
+                call: None,
+                keeps: true,
+            };
+        }
+        Next {
+            most: 1,
+            call: next_call(context),
+            keeps: keeps_code(context),
+        }
+    }
+
     /// Goes on to the state that the thread has come to by its turn, which was a call if there is an address
-    /// past it, and tells the first fault there. `Memory` is want of memory.
-    pub fn go_on(&mut self, context: &Context, past: Option<u64>) -> Result<Option<AbiKind>, Memory>
+    /// past it, and tells the first fault there; `keeps` says that the turn left code that may not be written
+    /// as it was. `Memory` is want of memory.
+    pub fn go_on(
+        &mut self,
+        context: &Context,
+        past: Option<u64>,
+        keeps: bool,
+    ) -> Result<Option<AbiKind>, Memory>
         requires home { is_home context.now ≡ true }
         requires somewhere { IsSomewhere self.old }
         ensures { (run : ℕ → State) (n : ℕ) → IsWatched run n self.old → run (suc n) ≡ state_of context.now
             → IsPast (run n) (run (suc n)) past → (run n).count ≤ (run (suc n)).count
+            → (keeps ≡ true → KeepsCode (run n).core.memory (run (suc n)).core.memory)
             → IfOk result (λ kind. IsToldNext run (suc n) kind self.new) }
     {
+        self.keep_blocks(keeps);
         if self.settle(context)? {
             return Ok(Some(AbiKind::NotLawful));
         }
@@ -182,6 +225,7 @@ impl Watch {
         &mut self,
         context: &Context,
         past: Option<u64>,
+        keeps: bool,
         found: Option<Abi>,
     ) -> Result<Option<Abi>, Memory>
         requires home { is_home context.now ≡ true }
@@ -189,12 +233,13 @@ impl Watch {
         ensures { (run : ℕ → State) (n : ℕ) → IsUnderWay run n self.old found
             → run (suc n) ≡ state_of context.now → IsPast (run n) (run (suc n)) past
             → (run n).count ≤ (run (suc n)).count
+            → (keeps ≡ true → KeepsCode (run n).core.memory (run (suc n)).core.memory)
             → IfOk result (λ told. IsUnderWay run (suc n) self.new told) }
     {
         if found.is_some() {
             return Ok(found);
         }
-        match self.go_on(context, past)? {
+        match self.go_on(context, past, keeps)? {
             Some(kind) => Ok(Some(Abi::No {
                 count: context.count(),
                 pc: context.machine().scalars.pc,

@@ -95,6 +95,26 @@ inner: ret
 /// One that calls itself, with a tail behind it.
 const RECURS: &[u8] = b"callee: bl callee\n .sme_tail\n";
 
+/// Calls twice, with the tail behind the call, and exits.
+const CALLS_TWICE: &[u8] = b"
+ movz x20, #2
+again: bl callee
+ .sme_tail
+ msr tpidr2_el0, x19
+ subs x20, x20, #1
+ b.ne again
+ movz x8, #93
+ svc #0
+";
+
+/// A callee that turns ZA off and saves nothing when it is called the last time.
+const LOSES_AT_LAST: &[u8] = b"
+callee: cmp x20, #1
+ b.ne back
+ smstop za
+back: ret
+";
+
 /// A source and a budget, the count to which its run is checked, and what is told of it.
 struct Case<'a> {
     parts: [&'a [u8]; 3],
@@ -103,7 +123,7 @@ struct Case<'a> {
     told: Result<Abi, AloneFault>,
 }
 
-const CASES: [Case; 13] = [
+const CASES: [Case; 15] = [
     Case {
         parts: [DORMANT, CALLS, SAVES],
         budget: 1000,
@@ -186,6 +206,25 @@ const CASES: [Case; 13] = [
         told: Ok(Abi::No {
             count: 12,
             pc: 0x400010,
+            kind: AbiKind::NotLawful,
+        }),
+    },
+    Case {
+        parts: [DORMANT, CALLS_TWICE, RETURNS],
+        budget: 1000,
+        count: 24,
+        told: Ok(Abi::Yes {
+            calls: 2,
+            unreturned: 0,
+        }),
+    },
+    Case {
+        parts: [DORMANT, CALLS_TWICE, LOSES_AT_LAST],
+        budget: 1000,
+        count: 29,
+        told: Ok(Abi::No {
+            count: 20,
+            pc: 0x400014,
             kind: AbiKind::NotLawful,
         }),
     },

@@ -1,4 +1,4 @@
-use Rattle.std.proofs.Common.{◌≡◌, ◌≤◌, ◌/◌, ◌∙◌, length, arith}
+use Rattle.std.proofs.Common.{◌≤◌, ◌/◌, ◌∙◌, length, arith}
 use Rattle.std.specs.FinMap.{entries, get-entries, len-entries}
 use Rattle.abi_checker.proofs.Listed.{find_here, find_later, find_past, byte_there, byte_nowhere}
 use Rattle.abi_checker.proofs.bytes.byte_in.Goals as goal

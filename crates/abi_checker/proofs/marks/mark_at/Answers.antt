@@ -1,5 +1,4 @@
-use Rattle.std.proofs.Common.{rules, ◌≡◌, ◌+◌, ◌-◌, ◌%◌, ◌^◌, ◌∙◌, sym, subst, None, refl}
-use Rattle.std.specs.Prelude.{IsTrue}
+use Rattle.std.proofs.Common.{rules, ◌≡◌, ◌+◌, ◌-◌, ◌%◌, ◌^◌, sym, subst, refl}
 use Rattle.sm_types.specs.Routines.{tail_words, restore_words, disable_words}
 use Rattle.lazy_saving.specs.Dormant.{Places}
 use Rattle.abi_checker.specs.Marks.{HasMark, AreWords}

@@ -1,4 +1,4 @@
-use Rattle.std.proofs.Common.{rules, ◌≡◌, ◌∙◌, sym, ap, subst, length, true, None, Some, refl}
+use Rattle.std.proofs.Common.{rules, ◌≡◌, ◌∙◌, sym, ap, subst, length, true, None, refl}
 use Rattle.mem_access.specs.declared.bank.Bank.{Bank}
 use Rattle.machine_step.specs.declared.machine.Machine.{Machine}
 use Rattle.machine_step.specs.Machine.{core_of}

@@ -1,5 +1,4 @@
-use Rattle.std.proofs.Common.{rules, ◌≡◌, ◌≢◌, ◌≤◌, ◌<◌, ◌∙◌, ℕ, List, [], get_or, length, sym, ap, refl, arith, below_more}
-use Rattle.sve_vectors.specs.Layout.{items_of}
+use Rattle.std.proofs.Common.{rules, ◌≡◌, ◌≢◌, ◌∙◌, ℕ, List, [], get_or, length, sym, ap, refl, arith, below_more}
 use Rattle.abi_checker.proofs.Same.{row_at, rows_same}
 use Rattle.abi_checker.proofs.open_call.has_rows.Goals as goal
 

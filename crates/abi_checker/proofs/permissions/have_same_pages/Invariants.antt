@@ -1,5 +1,5 @@
-use Rattle.std.proofs.Common.{◌≡◌, ◌-◌, ◌+◌, ◌<◌, ◌/◌, ◌%◌, ◌^◌, ℕ}
-use Rattle.std.specs.FinMap.{get, entries}
+use Rattle.std.proofs.Common.{◌≡◌, ◌-◌}
+use Rattle.std.specs.FinMap.{entries}
 use Rattle.paged_memory.specs.Memory.{AddressSpace}
 use Rattle.lazy_saving.specs.Dormant.{HasSamePages}
 use Rattle.abi_checker.proofs.permissions.have_same_pages.Given as goal

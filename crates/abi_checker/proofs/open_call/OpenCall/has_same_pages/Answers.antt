@@ -1,4 +1,4 @@
-use Rattle.std.proofs.Common.{◌≡◌, ◌∙◌, ℕ, length, sym, ap, subst, arith, true, false}
+use Rattle.std.proofs.Common.{◌≡◌, ◌∙◌, ℕ, length, sym, ap, subst, arith, false}
 use Rattle.std.specs.Prelude.{IsTrue}
 use Rattle.paged_memory.specs.Memory.{AddressSpace}
 use Rattle.lazy_saving.specs.Block.{buffer_of}

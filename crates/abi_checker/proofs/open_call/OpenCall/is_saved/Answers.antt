@@ -1,8 +1,8 @@
-use Rattle.std.proofs.Common.{◌≡◌, ◌+◌, ◌*◌, ◌<◌, ◌≤◌, ◌∙◌, ℕ, List, [], length, sym, ap, refl, arith, true, false}
+use Rattle.std.proofs.Common.{◌≡◌, ◌<◌, ◌≤◌, ℕ, List, [], length, sym, ap, refl, arith, false}
 use Rattle.std.specs.Prelude.{slice_index_or, IsTrue}
 use Rattle.sve_vectors.specs.Layout.{items_of}
 use Rattle.lazy_saving.specs.Block.{buffer_of, saved_of}
-use Rattle.abi_checker.proofs.Rows.{at_most, row_long, few_saved, row_is, saved_at, saved_more, is_saved_slice, no_saved_slice, IsSavedAt}
+use Rattle.abi_checker.proofs.Rows.{at_most, row_long, few_saved, row_is, saved_at, saved_more, is_saved_slice, no_saved_slice}
 use Rattle.abi_checker.proofs.open_call.OpenCall.is_saved.Goals as goal
 use Rattle.abi_checker.proofs.open_call.OpenCall.is_saved.Goals.{else-done-saved-via-then-done-saved+else-not-has_row, else-done-saved-via-else-done-saved}
 

@@ -1,10 +1,9 @@
-use Rattle.std.proofs.Common.{◌≡◌, ◌∙◌, sym, ap, subst, true, false}
+use Rattle.std.proofs.Common.{◌≡◌, ◌∙◌, sym, ap, subst, false}
 use Rattle.std.specs.Prelude.{IsTrue}
 use Rattle.std.specs.FinMap.{entries}
 use Rattle.scalar_exec.specs.Registers.{x_of}
 use Rattle.paged_memory.specs.Memory.{AddressSpace}
 use Rattle.machine_step.specs.declared.machine.Machine.{Machine}
-use Rattle.kernel_contexts.specs.Context.{state_of}
 use Rattle.abi_checker.specs.Keeping.{HasKeptMemory}
 use Rattle.abi_checker.specs.declared.open_call.OpenCall.{OpenCall}
 use Rattle.abi_checker.proofs.Next.{equal}

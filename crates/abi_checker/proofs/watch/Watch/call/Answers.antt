@@ -1,14 +1,14 @@
-use Rattle.std.proofs.Common.{rules, inl, inr, ◌≡◌, ◌≤◌, ◌<◌, ◌++◌, ◌∷◌, [], ◌∙◌, refl, sym, ap, subst, arith, Some, length, List, true}
+use Rattle.std.proofs.Common.{rules, inl, inr, ◌≡◌, ◌<◌, ◌++◌, ◌∷◌, [], ◌∙◌, refl, sym, ap, subst, arith, length, List, true}
 use Rattle.std.specs.Prelude.{IfSome, slice_set}
 use Rattle.std.proofs.lemmas.List.{length_push}
 use Rattle.machine_step.specs.declared.machine.Machine.{Machine}
 use Rattle.kernel_contexts.specs.Context.{state_of}
-use Rattle.lazy_saving.specs.Dormant.{Places}
 use Rattle.za_routines.specs.Places.{places_of}
 use Rattle.za_routines.specs.declared.places.RoutinePlaces.{RoutinePlaces}
 use Rattle.abi_checker.specs.Marks.{HasMark}
 use Rattle.abi_checker.specs.Keeping.{IsKept}
-use Rattle.abi_checker.specs.Watching.{AreNear, IsMarkedPast, slot_of}
+use Rattle.abi_checker.specs.Watching.{AreNear, IsMarkedPast}
+use Rattle.abi_checker.specs.Near.{slot_of}
 use Rattle.abi_checker.specs.declared.open_call.OpenCall.{OpenCall}
 use Rattle.abi_checker.proofs.Settled.{near_more}
 use Rattle.abi_checker.proofs.watch.Watch.call.Goals as goal

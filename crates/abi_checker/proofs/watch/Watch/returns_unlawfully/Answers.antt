@@ -1,15 +1,11 @@
-use Rattle.std.proofs.Common.{rules, ◌⊎◌, inl, inr, ◌≡◌, ◌∙◌, ◌<◌, ◌≤◌, ◌+◌, ℕ, true, false, List, length, get_or, sym, ap, subst, arith, refl, below_more}
-use Rattle.std.specs.Prelude.{Ok, slice_index_or, IsTrue}
-use Rattle.std.specs.List.{All, Contains}
+use Rattle.std.proofs.Common.{◌≡◌, ◌∙◌, ◌<◌, true, false, length, sym, subst, arith}
 use Rattle.kernel_contexts.specs.State.{State}
 use Rattle.kernel_contexts.specs.Context.{state_of}
-use Rattle.lone_runner.proofs.Partings.{compared}
 use Rattle.za_routines.specs.Places.{places_of}
 use Rattle.lazy_saving.specs.Dormant.{IsLawful}
 use Rattle.abi_checker.specs.Faults.{block_of}
 use Rattle.abi_checker.specs.Keeping.{IsKept}
-use Rattle.abi_checker.specs.Returning.{is_back, IsOfSome, IsFine, IsUnlawful}
-use Rattle.abi_checker.specs.declared.open_call.OpenCall.{OpenCall}
+use Rattle.abi_checker.specs.Returning.{IsOfSome, IsFine}
 use Rattle.abi_checker.proofs.Settled.{fine_more}
 use Rattle.abi_checker.proofs.watch.Watch.returns_unlawfully.Goals as goal
 use Rattle.abi_checker.proofs.watch.Watch.returns_unlawfully.Goals.{else-is_back-via-then-is_back+in_ok-is_lawful+else-not-branch, else-is_back-via-else-is_back}

@@ -1,7 +1,7 @@
-use Rattle.std.proofs.Common.{rules, ◌≡◌, ◌∙◌, false, sym, ap}
+use Rattle.std.proofs.Common.{rules, ◌≡◌, false, ap}
 use Rattle.std.specs.Prelude.{Ok}
 use Rattle.kernel_contexts.specs.Context.{state_of}
-use Rattle.abi_checker.specs.Watching.{Settles, is_near}
+use Rattle.abi_checker.specs.Near.{is_near}
 use Rattle.abi_checker.proofs.Settled.{none_settles}
 use Rattle.abi_checker.proofs.watch.Watch.settle.Goals as goal
 
@@ -16,4 +16,5 @@ returns-clause-no c = λ _. record {
   left = c.take_returns.ensures.left;
   all = c.take_returns.ensures.all;
   near = c.take_returns.ensures.near;
+  known = λ m h. c.take_returns.ensures.known m;
 }

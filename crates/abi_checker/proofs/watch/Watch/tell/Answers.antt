@@ -1,4 +1,4 @@
-use Rattle.std.proofs.Common.{ℕ, suc, ◌≡◌, ◌≤◌, ◌∙◌, sym, ap, subst, arith, Bool, true, false, Option, Some, None}
+use Rattle.std.proofs.Common.{ℕ, suc, ◌≡◌, ◌∙◌, sym, ap, subst, arith, false, Option, Some, None}
 use Rattle.std.specs.Option.{is_some}
 use Rattle.machine_step.specs.declared.machine.Machine.{Machine}
 use Rattle.kernel_contexts.specs.State.{State}
@@ -19,9 +19,9 @@ go_on-requires-clause-somewhere c =
     (here.0, here.1, watched here.0 here.1 c.args.self.now c.args.found c.if-is_some.ensures here.2, here.3)
 
 pub returns-in-Some : goal.returns-in-Some
-returns-in-Some c = λ run n way e past grows.
+returns-in-Some c = λ run n way e past grows code.
     let w = watched run n c.args.self.now c.args.found c.if-is_some.ensures way in
-    let told = subst (λ kind. IsToldNext run (suc n) kind c.go_on.new.self) c.in-Some.is (c.in_ok-kind.ensures run n w e past grows) in
+    let told = subst (λ kind. IsToldNext run (suc n) kind c.go_on.new.self) c.in-Some.is (c.in_ok-kind.ensures run n w e past grows code) in
     record {
       at = suc n;
       within = omega arith;
@@ -31,6 +31,6 @@ returns-in-Some c = λ run n way e past grows.
     }
 
 pub returns-in-None : goal.returns-in-None
-returns-in-None c = λ run n way e past grows.
+returns-in-None c = λ run n way e past grows code.
     let w = watched run n c.args.self.now c.args.found c.if-is_some.ensures way in
-    subst (λ kind. IsToldNext run (suc n) kind c.go_on.new.self) c.in-None.is (c.in_ok-kind.ensures run n w e past grows)
+    subst (λ kind. IsToldNext run (suc n) kind c.go_on.new.self) c.in-None.is (c.in_ok-kind.ensures run n w e past grows code)

@@ -1,7 +1,7 @@
 use Rattle.std.proofs.Common.{◌≡◌, ◌<◌, ℕ, true, length, get_or}
-use Rattle.abi_checker.specs.Watching.{is_near}
+use Rattle.abi_checker.specs.Near.{is_near}
 use Rattle.abi_checker.specs.declared.open_call.OpenCall.{OpenCall}
-use Rattle.abi_checker.proofs.watch.slots_of.Given as goal
+use Rattle.abi_checker.proofs.near.slots_of.Given as goal
 
 abbrev pub invariant-calls : goal.invariant-calls
 invariant-calls l =

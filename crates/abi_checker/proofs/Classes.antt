@@ -1,0 +1,339 @@
+-- What the instructions of plain words and of jumps are, by the tables.
+use Rattle.std.proofs.Common.{◌⊎◌, inl, inr, ◌≡◌, ℕ, Bool, true, false, cond, ◌==◌, ◌&&◌, ◌||◌, List, [], ◌∷◌, Option, Some, None, refl, ap, sym, ◌∙◌}
+use Rattle.std.proofs.Common.{subst, eqb-true, eq-eqb, ℤ}
+use Rattle.std.specs.Prelude.{not, bit_and, unwrap_or}
+use Rattle.std.specs.List.{list_all}
+use Rattle.std.specs.Option.{option_or}
+use Rattle.std.proofs.lemmas.Bool.{and_parts, cases_Bool}
+use Rattle.std.proofs.lemmas.Nat.{and_assoc}
+use Rattle.sm_types.specs.declared.insn.Insn.{Insn}
+use Rattle.sm_types.specs.declared.insn.Insn.TheVariants as insn
+use Rattle.insn_forms.specs.declared.field.Field.{Field}
+use Rattle.insn_forms.specs.declared.line.Line.{Line}
+use Rattle.insn_forms.specs.Tables.{Table, insn_in, meaning_in, meaning_by, stands_for, fits_in}
+use Rattle.insn_forms.proofs.Tables.{differ, not_alike}
+use Rattle.a64_table.specs.declared.operation.Operation.{Operation}
+use Rattle.a64_table.specs.declared.operation.Operation.TheVariants as operation
+use Rattle.a64_table.specs.declared.rows.TheConstants.{SCALAR_LINES}
+use Rattle.a64_table.specs.Named.{named}
+use Rattle.a64_table.specs.Table.{scalar, meaning_of}
+use Rattle.sve_table.specs.declared.operation.VectorOperation.{VectorOperation}
+use Rattle.sve_table.specs.declared.operation.VectorOperation.TheVariants as vectors
+use Rattle.sve_table.specs.declared.rows.TheConstants.{VECTOR_LINES}
+use Rattle.sve_table.specs.Named.{named as vector_named}
+use Rattle.sve_table.specs.Table.{vector, vector_meaning_of}
+use Rattle.a64_encode.specs.Either.{instruction_of}
+use Rattle.abi_checker.specs.Straight.{has_bits, is_plain_word, is_jump_word}
+
+-- ---- plain instructions, and jumps
+
+-- after the instruction PC goes on by 4, and of memory it changes no more than it may write
+abbrev pub is_plain_insn : Insn → Bool
+is_plain_insn (insn.AddSubImmediate x) = true
+is_plain_insn (insn.AddSubRegister x) = true
+is_plain_insn (insn.LogicalRegister x) = true
+is_plain_insn (insn.AddSubExtended x) = true
+is_plain_insn (insn.LogicalImmediate x) = true
+is_plain_insn (insn.MoveWide x) = true
+is_plain_insn (insn.BitfieldMove x) = true
+is_plain_insn (insn.Extract x) = true
+is_plain_insn (insn.PcRelative x) = true
+is_plain_insn (insn.AddSubCarry x) = true
+is_plain_insn (insn.ConditionalSelect x) = true
+is_plain_insn (insn.ConditionalCompare x) = true
+is_plain_insn (insn.OneSource x) = true
+is_plain_insn (insn.TwoSource x) = true
+is_plain_insn (insn.Multiply x) = true
+is_plain_insn (insn.LoadStore x) = true
+is_plain_insn (insn.LoadLiteral x) = true
+is_plain_insn (insn.LoadStorePair x) = true
+is_plain_insn (insn.Atomic x) = true
+is_plain_insn (insn.VectorArithmetic x) = true
+is_plain_insn (insn.VectorLogical x) = true
+is_plain_insn (insn.PredicatedBinary x) = true
+is_plain_insn (insn.MultiplyAdd x) = true
+is_plain_insn (insn.PredicatedUnary x) = true
+is_plain_insn (insn.VectorShift x) = true
+is_plain_insn (insn.VectorCopy x) = true
+is_plain_insn (insn.VectorPermute x) = true
+is_plain_insn (insn.VectorReduction x) = true
+is_plain_insn (insn.VectorCompare x) = true
+is_plain_insn (insn.Predicate x) = true
+is_plain_insn (insn.PredicateCount x) = true
+is_plain_insn (insn.ElementCount x) = true
+is_plain_insn (insn.Sve2 x) = true
+is_plain_insn (insn.OuterProduct x) = true
+is_plain_insn (insn.StreamingLength x) = true
+is_plain_insn other = false
+
+abbrev pub is_jump_insn : Insn → Bool
+is_jump_insn (insn.Branch x) = true
+is_jump_insn (insn.BranchRegister x) = true
+is_jump_insn other = false
+
+-- ---- their operations
+
+abbrev is_plain_op : Operation → Bool
+is_plain_op (operation.G10 op) = false
+is_plain_op (operation.G11 op) = false
+is_plain_op (operation.G22 op) = false
+is_plain_op (operation.G23 op register) = false
+is_plain_op other = true
+
+abbrev is_jump_op : Operation → Bool
+is_jump_op (operation.G10 op) = true
+is_jump_op (operation.G11 op) = true
+is_jump_op other = false
+
+abbrev is_plain_vector : VectorOperation → Bool
+is_plain_vector (vectors.G37 form) = false
+is_plain_vector (vectors.G39 start part) = false
+is_plain_vector (vectors.G40 form) = false
+is_plain_vector (vectors.G41 store size) = false
+is_plain_vector (vectors.G42 to_tile size) = false
+is_plain_vector (vectors.G43 vertical wide) = false
+is_plain_vector other = true
+
+plain_named : (op : Operation) (n : Field → ℕ) (s : Field → ℤ) → is_plain_op op ≡ true → is_plain_insn (named op n s) ≡ true
+unfolding named
+plain_named (operation.G1 op) n s e = refl
+plain_named (operation.G2 op) n s e = refl
+plain_named (operation.G3 op inverted) n s e = refl
+plain_named (operation.G4 op) n s e = refl
+plain_named (operation.G5 op) n s e = refl
+plain_named (operation.G6 op) n s e = refl
+plain_named (operation.G7 op wide) n s e = refl
+plain_named (operation.G8 wide) n s e = refl
+plain_named (operation.G9 op) n s e = refl
+plain_named (operation.G10 op) n s e = cc
+plain_named (operation.G11 op) n s e = cc
+plain_named (operation.G12 op) n s e = refl
+plain_named (operation.G13 op) n s e = refl
+plain_named (operation.G14 op immediate) n s e = refl
+plain_named (operation.G15 op) n s e = refl
+plain_named (operation.G16 op) n s e = refl
+plain_named (operation.G17 op) n s e = refl
+plain_named (operation.G18 form) n s e = refl
+plain_named (operation.G19 op) n s e = refl
+plain_named (operation.G20 op wide index) n s e = refl
+plain_named (operation.G21 form) n s e = refl
+plain_named (operation.G22 op) n s e = cc
+plain_named (operation.G23 op register) n s e = cc
+
+jump_named : (op : Operation) (n : Field → ℕ) (s : Field → ℤ) → is_jump_op op ≡ true → is_jump_insn (named op n s) ≡ true
+unfolding named
+jump_named (operation.G10 op) n s e = refl
+jump_named (operation.G11 op) n s e = refl
+jump_named (operation.G1 op) n s e = cc
+jump_named (operation.G2 op) n s e = cc
+jump_named (operation.G3 op inverted) n s e = cc
+jump_named (operation.G4 op) n s e = cc
+jump_named (operation.G5 op) n s e = cc
+jump_named (operation.G6 op) n s e = cc
+jump_named (operation.G7 op wide) n s e = cc
+jump_named (operation.G8 wide) n s e = cc
+jump_named (operation.G9 op) n s e = cc
+jump_named (operation.G12 op) n s e = cc
+jump_named (operation.G13 op) n s e = cc
+jump_named (operation.G14 op immediate) n s e = cc
+jump_named (operation.G15 op) n s e = cc
+jump_named (operation.G16 op) n s e = cc
+jump_named (operation.G17 op) n s e = cc
+jump_named (operation.G18 form) n s e = cc
+jump_named (operation.G19 op) n s e = cc
+jump_named (operation.G20 op wide index) n s e = cc
+jump_named (operation.G21 form) n s e = cc
+jump_named (operation.G22 op) n s e = cc
+jump_named (operation.G23 op register) n s e = cc
+
+plain_vector_named : (op : VectorOperation) (n : Field → ℕ) (s : Field → ℤ) → is_plain_vector op ≡ true
+    → is_plain_insn (vector_named op n s) ≡ true
+unfolding vector_named
+plain_vector_named (vectors.G24 op) n s e = refl
+plain_vector_named (vectors.G25 op) n s e = refl
+plain_vector_named (vectors.G26 op) n s e = refl
+plain_vector_named (vectors.G27 op) n s e = refl
+plain_vector_named (vectors.G28 op) n s e = refl
+plain_vector_named (vectors.G29 op size) n s e = refl
+plain_vector_named (vectors.G30 form) n s e = refl
+plain_vector_named (vectors.G31 form) n s e = refl
+plain_vector_named (vectors.G32 form) n s e = refl
+plain_vector_named (vectors.G33 form) n s e = refl
+plain_vector_named (vectors.G34 form) n s e = refl
+plain_vector_named (vectors.G35 form) n s e = refl
+plain_vector_named (vectors.G36 form) n s e = refl
+plain_vector_named (vectors.G37 form) n s e = cc
+plain_vector_named (vectors.G38 form) n s e = refl
+plain_vector_named (vectors.G39 start part) n s e = cc
+plain_vector_named (vectors.G40 form) n s e = cc
+plain_vector_named (vectors.G41 store size) n s e = cc
+plain_vector_named (vectors.G42 to_tile size) n s e = cc
+plain_vector_named (vectors.G43 vertical wide) n s e = cc
+plain_vector_named (vectors.G44 op wide) n s e = refl
+plain_vector_named (vectors.G45 form) n s e = refl
+
+-- ---- the lines of a table
+
+-- what is so of the instruction of each line that the word matches is so of the word's
+module _ {O I : Type 0} (t : Table O I) (word : ℕ) (P : I → Type 0) (safe : Line O → Bool)
+    (sound : (line : Line O) → safe line ≡ true → bit_and word line.mask ≡ line.value → P (insn_in t line.operation word)) where
+  one_some : (x y : I) → Some x ≡ Some y → P x → P y
+  one_some x y e h = subst P (ap (λ o. unwrap_or o x) e) h
+
+  all_mean : (lines : List (Line O)) → list_all safe lines ≡ true → (it : I) → meaning_in t lines word ≡ Some it → P it
+  unfolding meaning_in stands_for
+  all_mean [] e it h = cc
+  all_mean (line ∷ lines) e it h =
+      let parts = and_parts (safe line) (list_all safe lines) e in
+      let test : Bool = (bit_and word line.mask == line.value) && fits_in t line.operation word in
+      let choose : Bool → Option I = λ b. cond b (Some (insn_in t line.operation word)) (meaning_in t lines word) in
+      elim (cases_Bool test) [
+        | inl held ↦
+            one_some (insn_in t line.operation word) it (sym (ap choose held) ∙ h)
+            (sound line parts.0
+            (eqb-true (bit_and word line.mask) line.value
+            (and_parts (bit_and word line.mask == line.value) (fits_in t line.operation word) held).0))
+        | inr other ↦ all_mean lines parts.1 it (sym (ap choose other) ∙ h)
+      ]
+
+-- ---- the bits of a plain word
+
+or_two : (a b : Bool) → (a || b) ≡ true → (a ≡ true) ⊎ (b ≡ true)
+or_two true b e = inl refl
+or_two false b e = inr e
+
+-- the line has none of the words with the fixed bits of plain ones
+abbrev off_plain : ℕ → ℕ → Bool
+off_plain mask value =
+    differ 0x0C000000 0x08000000 mask value
+    && (differ 0x1C000000 0x10000000 mask value
+    && (differ 0x9E000000 0x04000000 mask value
+    && differ 0xFE000000 0xA0000000 mask value))
+
+off_bits : (word mask value fixed bits : ℕ) → has_bits fixed bits word ≡ true → bit_and word mask ≡ value
+    → differ fixed bits mask value ≡ true → ⊥
+off_bits word mask value fixed bits has is apart =
+    not_alike word fixed bits mask value apart (eqb-true (bit_and word fixed) bits has) is
+
+not_plain : (word mask value : ℕ) → is_plain_word word ≡ true → bit_and word mask ≡ value → off_plain mask value ≡ true → ⊥
+not_plain word mask value plain is apart =
+    let a = and_parts _ _ apart in
+    let b = and_parts _ _ a.1 in
+    let d = and_parts _ _ b.1 in
+    elim (or_two (has_bits 0x0C000000 0x08000000 word) _ plain) [
+      | inl h ↦ off_bits word mask value 0x0C000000 0x08000000 h is a.0
+      | inr more ↦ elim (or_two (has_bits 0x1C000000 0x10000000 word) _ more) [
+        | inl h ↦ off_bits word mask value 0x1C000000 0x10000000 h is b.0
+        | inr rest ↦ elim (or_two (has_bits 0x9E000000 0x04000000 word) _ rest) [
+          | inl h ↦ off_bits word mask value 0x9E000000 0x04000000 h is d.0
+          | inr last ↦ off_bits word mask value 0xFE000000 0xA0000000 last is d.1
+        ]
+      ]
+    ]
+
+-- ---- the bits of a jump
+
+-- the words of the line are of the system
+abbrev is_system : ℕ → ℕ → Bool
+is_system mask value = (bit_and mask 0xFE000000 == 0xFE000000) && (bit_and value 0xFE000000 == 0xD4000000)
+
+abbrev off_jump : ℕ → ℕ → Bool
+off_jump mask value = differ 0x1C000000 0x14000000 mask value || is_system mask value
+
+both_ways : (b : Bool) → b ≡ true → not b ≡ true → ⊥
+both_ways true e f = cc
+both_ways false e f = cc
+
+not_jump : (word mask value : ℕ) → is_jump_word word ≡ true → bit_and word mask ≡ value → off_jump mask value ≡ true → ⊥
+not_jump word mask value jump is apart =
+    let parts = and_parts (has_bits 0x1C000000 0x14000000 word) (not (has_bits 0xFE000000 0xD4000000 word)) jump in
+    elim (or_two (differ 0x1C000000 0x14000000 mask value) (is_system mask value) apart) [
+      | inl off ↦ off_bits word mask value 0x1C000000 0x14000000 parts.0 is off
+      | inr of_system ↦
+          let both = and_parts (bit_and mask 0xFE000000 == 0xFE000000) (bit_and value 0xFE000000 == 0xD4000000) of_system in
+          let same : bit_and word 0xFE000000 ≡ 0xD4000000 =
+          ap (bit_and word) (sym (eqb-true (bit_and mask 0xFE000000) 0xFE000000 both.0)) ∙ sym (and_assoc 0xFE000000 word mask)
+          ∙ ap (λ n. bit_and n 0xFE000000) is ∙ eqb-true (bit_and value 0xFE000000) 0xD4000000 both.1 in
+          both_ways (has_bits 0xFE000000 0xD4000000 word) (eq-eqb (bit_and word 0xFE000000) 0xD4000000 same) parts.1
+    ]
+
+-- ---- by both tables
+
+unfoldable safe_scalar : Line Operation → Bool
+safe_scalar line = is_plain_op line.operation || off_plain line.mask line.value
+
+unfoldable safe_vector : Line VectorOperation → Bool
+safe_vector line = is_plain_vector line.operation || off_plain line.mask line.value
+
+unfoldable jump_scalar : Line Operation → Bool
+jump_scalar line = is_jump_op line.operation || off_jump line.mask line.value
+
+unfoldable jump_vector : Line VectorOperation → Bool
+jump_vector line = off_jump line.mask line.value
+
+all_scalar : list_all safe_scalar SCALAR_LINES ≡ true
+unfolding safe_scalar differ
+all_scalar = refl
+
+all_vector : list_all safe_vector VECTOR_LINES ≡ true
+unfolding safe_vector differ
+all_vector = refl
+
+jumps_scalar : list_all jump_scalar SCALAR_LINES ≡ true
+unfolding jump_scalar differ
+jumps_scalar = refl
+
+jumps_vector : list_all jump_vector VECTOR_LINES ≡ true
+unfolding jump_vector differ
+jumps_vector = refl
+
+by_either : (first second : Option Insn) (it : Insn) → option_or first second ≡ Some it → (first ≡ Some it) ⊎ (second ≡ Some it)
+by_either None second it e = inr e
+by_either (Some x) second it e = inl e
+
+module _ (word : ℕ) (plain : is_plain_word word ≡ true) where
+  scalar_sound : (line : Line Operation) → safe_scalar line ≡ true → bit_and word line.mask ≡ line.value
+      → is_plain_insn (insn_in scalar line.operation word) ≡ true
+  unfolding scalar safe_scalar
+  scalar_sound line safe is = elim (or_two (is_plain_op line.operation) (off_plain line.mask line.value) safe) [
+    | inl op ↦ plain_named line.operation _ _ op
+    | inr off ↦ absurd (not_plain word line.mask line.value plain is off)
+  ]
+
+  vector_sound : (line : Line VectorOperation) → safe_vector line ≡ true → bit_and word line.mask ≡ line.value
+      → is_plain_insn (insn_in vector line.operation word) ≡ true
+  unfolding vector safe_vector
+  vector_sound line safe is = elim (or_two (is_plain_vector line.operation) (off_plain line.mask line.value) safe) [
+    | inl op ↦ plain_vector_named line.operation _ _ op
+    | inr off ↦ absurd (not_plain word line.mask line.value plain is off)
+  ]
+
+  pub plain_is : (it : Insn) → instruction_of word ≡ Some it → is_plain_insn it ≡ true
+  unfolding instruction_of meaning_of vector_meaning_of meaning_by scalar vector
+  plain_is it e = elim (by_either (meaning_of word) (vector_meaning_of word) it e) [
+    | inl h ↦
+        all_mean scalar word (λ i. is_plain_insn i ≡ true) safe_scalar scalar_sound SCALAR_LINES all_scalar it h
+    | inr h ↦
+        all_mean vector word (λ i. is_plain_insn i ≡ true) safe_vector vector_sound VECTOR_LINES all_vector it h
+  ]
+
+module _ (word : ℕ) (jump : is_jump_word word ≡ true) where
+  jump_sound : (line : Line Operation) → jump_scalar line ≡ true → bit_and word line.mask ≡ line.value
+      → is_jump_insn (insn_in scalar line.operation word) ≡ true
+  unfolding scalar jump_scalar
+  jump_sound line safe is = elim (or_two (is_jump_op line.operation) (off_jump line.mask line.value) safe) [
+    | inl op ↦ jump_named line.operation _ _ op
+    | inr off ↦ absurd (not_jump word line.mask line.value jump is off)
+  ]
+
+  no_vector_jump : (line : Line VectorOperation) → jump_vector line ≡ true → bit_and word line.mask ≡ line.value
+      → is_jump_insn (insn_in vector line.operation word) ≡ true
+  unfolding jump_vector
+  no_vector_jump line safe is = absurd (not_jump word line.mask line.value jump is safe)
+
+  pub jump_is : (it : Insn) → instruction_of word ≡ Some it → is_jump_insn it ≡ true
+  unfolding instruction_of meaning_of vector_meaning_of meaning_by scalar vector
+  jump_is it e = elim (by_either (meaning_of word) (vector_meaning_of word) it e) [
+    | inl h ↦ all_mean scalar word (λ i. is_jump_insn i ≡ true) jump_scalar jump_sound SCALAR_LINES jumps_scalar it h
+    | inr h ↦ all_mean vector word (λ i. is_jump_insn i ≡ true) jump_vector no_vector_jump VECTOR_LINES jumps_vector it h
+  ]
