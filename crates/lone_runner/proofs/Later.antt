@@ -31,6 +31,22 @@ pub same_rest : (xs more rest : List Event) → xs ++ more ≡ xs ++ rest → mo
 same_rest [] more rest e = e
 same_rest (x ∷ xs) more rest e = let others : xs ++ more ≡ xs ++ rest = cc in same_rest xs more rest others
 
+-- a way of parting before a count is one from each later count
+pub parts_later : (n last : ℕ) (fault : AloneFault) (r : Reached) → n ≤ last → parting_at n r ≡ Some fault → (state_at r).count < n
+    → parting_at last r ≡ Some fault
+parts_later n last fault (At s used left) within parts less =
+    absurd (not_some fault (sym (none_yet n s used left (omega (arith, less))) ∙ parts))
+parts_later n last fault (Ended s stop used left) within parts less =
+    early last s stop used left (omega (arith, less, within)) ∙ sym (early n s stop used left less) ∙ parts
+parts_later n last fault (Strays s used left) within parts less = parts
+
+-- where it does not part before a count, it does not part from a later one
+pub none_later : (n last : ℕ) (r : Reached) → n ≤ last → parting_at n r ≡ None → (state_at r).count < n → parting_at last r ≡ None
+none_later n last (At s used left) within none less = none_yet last s used left (omega (arith, less, within))
+none_later n last (Ended s stop used left) within none less =
+    absurd (not_some (EndsEarly s.count stop) (sym none ∙ early n s stop used left less))
+none_later n last (Strays s used left) within none less = absurd (not_some (unanswered s used left) (sym none))
+
 module _ (program : Program) (config : Config) (thread : ℕ) (journal : List Event) where
   abbrev counted_at : ℕ → ℕ
   counted_at m = (state_at (reach program config thread journal m)).count
@@ -78,30 +94,14 @@ module _ (program : Program) (config : Config) (thread : ℕ) (journal : List Ev
         most = omega (arith, counts, less);
       }
 
-  -- ---- a run that does not part from its end
-
-  -- a way of parting before a count is one from each later count
-  module _ (n last : ℕ) (fault : AloneFault) (p : IsPartingBefore program config thread journal n fault) (within : n ≤ last) where
-    parts_later : (r : Reached) → parting_at n r ≡ Some fault → (state_at r).count < n → parting_at last r ≡ Some fault
-    parts_later (At s used left) parts less =
-        absurd (not_some fault (sym (none_yet n s used left (omega (arith, less))) ∙ parts))
-    parts_later (Ended s stop used left) parts less =
-        early last s stop used left (omega (arith, less, within)) ∙ sym (early n s stop used left less) ∙ parts
-    parts_later (Strays s used left) parts less = parts
-
-    none_later : (m : ℕ) (r : Reached) → reach program config thread journal m ≡ r → parting_at n r ≡ None → (state_at r).count < n
-        → parting_at last r ≡ None
-    none_later m (At s used left) at none less = none_yet last s used left (omega (arith, less, within))
-    none_later m (Ended s stop used left) at none less =
-        absurd (not_some (EndsEarly s.count stop) (sym none ∙ early n s stop used left less))
-    none_later m (Strays s used left) at none less = absurd (not_some (unanswered s used left) (sym none))
-
-    pub parts_so : IsParting program config thread journal last fault
-    parts_so = record {
-      turns = p.parting.turns;
-      parts = parts_later (reach program config thread journal p.parting.turns) p.parting.parts
-          (below_all program config thread journal n p.parting.turns p.before);
-      first = λ m l.
-          none_later m (reach program config thread journal m) refl (p.parting.first m l)
-          (below_all program config thread journal n m (λ k b. p.before k (omega (arith, b, l))));
-    }
+  -- a run that does not part from its end does not part before it
+  pub parts_so : (n last : ℕ) (fault : AloneFault) → IsPartingBefore program config thread journal n fault → n ≤ last
+      → IsParting program config thread journal last fault
+  parts_so n last fault p within = record {
+    turns = p.parting.turns;
+    parts = parts_later n last fault (reach program config thread journal p.parting.turns) within p.parting.parts
+        (below_all program config thread journal n p.parting.turns p.before);
+    first = λ m l.
+        none_later n last (reach program config thread journal m) within (p.parting.first m l)
+        (below_all program config thread journal n m (λ k b. p.before k (omega (arith, b, l))));
+  }

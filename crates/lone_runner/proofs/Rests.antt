@@ -5,7 +5,7 @@ use Rattle.sm_types.specs.declared.shared_op.Event.{Event}
 use Rattle.sm_types.specs.declared.stop.Stop.{Stop}
 use Rattle.paged_memory.specs.Image.{Program}
 use Rattle.kernel_contexts.specs.State.{State}
-use Rattle.kernel_contexts.specs.Run.{Reached, At, Ended, reach, reach_from, turned}
+use Rattle.kernel_contexts.specs.Run.{At, Ended, reach, reach_from, turned}
 use Rattle.lone_runner.specs.LoneRun.{IsLoneRun}
 use Rattle.lone_runner.specs.Parting.{IsParting, parting_at}
 use Rattle.lone_runner.specs.Rest.{IsRestOfRun, IsPartingFrom, RestIsRest}
@@ -18,7 +18,7 @@ within_or n k = grind arith
 
 module _ (program : Program) (config : Config) (thread : ℕ) (journal : List Event) (turns : ℕ) (s : State) (used : ℕ) (left : List Event)
     (at : reach program config thread journal turns ≡ At s used left) where
-  join : (more : ℕ) → reach program config thread journal (turns + more) ≡ reach_from config thread s used left more
+  pub join : (more : ℕ) → reach program config thread journal (turns + more) ≡ reach_from config thread s used left more
   unfolding reach reach_from
   join zero = let z : turns + 0 ≡ turns = omega arith in rw z at
   join (suc more) = let z : turns + suc more ≡ suc (turns + more) = omega arith in rw z (ap (turned config thread) (join more))

@@ -1,7 +1,7 @@
 -- A thread on its way from a state that no run vouches for.
 use Rattle.std.proofs.Common.{◌≡◌, ℕ, zero, suc, ◌+◌, ◌-◌, ◌*◌, ◌<◌, ◌≤◌, List, Option, Some, None, refl, ap, sym, ◌∙◌, arith, subst}
 use Rattle.std.proofs.Common.{◌++◌, length}
-use Rattle.std.proofs.lemmas.List.{length-append}
+use Rattle.std.proofs.lemmas.List.{append_assoc, length-append}
 use Rattle.sm_types.specs.declared.config.Config.{Config}
 use Rattle.sm_types.specs.declared.shared_op.Event.{Event}
 use Rattle.sm_types.specs.declared.stop.Stop.{Stop}
@@ -20,6 +20,7 @@ use Rattle.kernel_contexts.specs.declared.context.Turn.{Turn}
 use Rattle.kernel_contexts.specs.declared.loose.Loose.{Loose}
 use Rattle.lone_runner.specs.Parting.{parting_at, parting_when}
 use Rattle.lone_runner.specs.Rest.{IsPartingFrom}
+use Rattle.lone_runner.specs.Ticket.{whole_journal}
 use Rattle.lone_runner.specs.Resumed.{HasLooseTicket, IsLooseAstray, IsResuming, IsResumed, resumed_at, loose_place, loose_next}
 use Rattle.lone_runner.specs.declared.fault.AloneFault.{AloneFault}
 use Rattle.lone_runner.proofs.Counted.{Counts, turn_counted}
@@ -71,12 +72,20 @@ pub loose_turned_over : (stop : Option Stop) (refusals : Refusals) (old new : Lo
 loose_turned_over None refusals old new turn e h = h
 loose_turned_over (Some stop) refusals old new turn e h = cc
 
+-- the events of a turn go over from those ahead to those that are answered
+pub whole_stays : (made : List Event) (t u : ReplayEvents) → t.ahead ≡ made ++ u.ahead → u.answered ≡ t.answered ++ made
+    → whole_journal u ≡ whole_journal t
+whole_stays made t u ahead answered =
+    ap (λ (l : List Event). l ++ u.ahead) answered
+    ∙ append_assoc t.answered made u.ahead
+    ∙ ap (λ (l : List Event). t.answered ++ l) (sym ahead)
+
 -- fewer events are ahead
 pub fewer_ahead : (made old new : List Event) → old ≡ made ++ new → length new ≤ length old
 fewer_ahead made old new h = omega (arith, ap length h, length-append made new)
 
 module _ (from : Loose) (events : List Event) (count : ℕ) where
-  pub resume_begins : (ticket : ReplayEvents) → ticket.ahead ≡ events → (loose_state from).count ≤ count
+  unfoldable pub resume_begins : (ticket : ReplayEvents) → ticket.ahead ≡ events → (loose_state from).count ≤ count
       → IsResuming from events count from ticket
   unfolding reach_from
   resume_begins ticket all most =
@@ -116,7 +125,7 @@ module _ (from : Loose) (events : List Event) (count : ℕ) where
     resume_strays fault astray =
         resume_parts _ fault astray.strays (ap (λ (f : AloneFault). Some f) (sym astray.told))
 
-    pub resume_on : (new : Loose) (after : ReplayEvents) → loose_next old before ≡ loose_place new after None
+    unfoldable pub resume_on : (new : Loose) (after : ReplayEvents) → loose_next old before ≡ loose_place new after None
         → parting_at count (loose_place new after None) ≡ None → IsResuming from events count new after
     resume_on new after e none = record {
       turns = suc h.turns;
@@ -140,7 +149,7 @@ module _ (from : Loose) (events : List Event) (count : ℕ) where
         }
 
   -- so many turns further on, which ask nothing
-  several_at : (turns n used : ℕ) (left : List Event) (s t : State) → resumed_at from events turns ≡ At s used left
+  pub several_at : (turns n used : ℕ) (left : List Event) (s t : State) → resumed_at from events turns ≡ At s used left
       → GoesBy (loose_config from) (loose_thread from) used n s t → resumed_at from events (turns + n) ≡ At t used left
   several_at turns zero used left s t at goes =
       let none : turns + 0 ≡ turns = omega arith in
@@ -151,7 +160,7 @@ module _ (from : Loose) (events : List Event) (count : ℕ) where
       (several_at turns n used left s goes.0 at goes.1) (ap (after_turn goes.0 used left) goes.2))
 
   -- none of which parts, where the last does not pass the count
-  several_quiet : (turns n used : ℕ) (left : List Event) (s t : State) → resumed_at from events turns ≡ At s used left
+  pub several_quiet : (turns n used : ℕ) (left : List Event) (s t : State) → resumed_at from events turns ≡ At s used left
       → ((m : ℕ) → m ≤ turns → parting_at count (resumed_at from events m) ≡ None)
       → GoesBy (loose_config from) (loose_thread from) used n s t → t.count ≤ count
       → (m : ℕ) → m ≤ turns + n → parting_at count (resumed_at from events m) ≡ None
@@ -164,7 +173,7 @@ module _ (from : Loose) (events : List Event) (count : ℕ) where
       (ap (parting_at count) (sym (ap (resumed_at from events) more) ∙ several_at turns (suc n) used left s t at goes)
       ∙ none_yet count t used left most))
 
-  pub resume_goes_on : (old new : Loose) (ticket : ReplayEvents) (n : ℕ) → IsSameLoose from old
+  unfoldable pub resume_goes_on : (old new : Loose) (ticket : ReplayEvents) (n : ℕ) → IsSameLoose from old
       → GoesBy (loose_config old) (loose_thread old) (loose_events old) n (loose_state old) (loose_state new)
       → loose_events new ≡ loose_events old → (loose_state new).count ≤ count → IsResuming from events count old ticket
       → IsResuming from events count new ticket

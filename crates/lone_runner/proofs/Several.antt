@@ -1,6 +1,6 @@
 -- Turns that go on, one after the other, and ask nothing: the run is on its way still, as far as the count.
-use Rattle.std.proofs.Common.{◌≡◌, ℕ, zero, suc, ◌+◌, ◌-◌, ◌*◌, ◌^◌, ◌≤◌, ◌<◌, ◌++◌, true, false, cond, List, length, ap, sym, ◌∙◌, arith, subst}
-use Rattle.std.proofs.Common.{Option, Some, None, inl, inr}
+use Rattle.std.proofs.Common.{◌≡◌, ℕ, zero, suc, ◌+◌, ◌-◌, ◌*◌, ◌^◌, ◌≤◌, ◌<◌, ◌++◌, true, cond, List, length, ap, sym, ◌∙◌, arith, subst}
+use Rattle.std.proofs.Common.{Some, None, inl, inr}
 use Rattle.std.specs.Prelude.{nat_lt}
 use Rattle.std.proofs.lemmas.Bool.{cases_Bool}
 use Rattle.std.proofs.lemmas.Bool.Decides.{nat_tests}
@@ -11,12 +11,11 @@ use Rattle.paged_memory.specs.Image.{Program}
 use Rattle.kernel_contexts.specs.State.{State}
 use Rattle.kernel_contexts.specs.Run.{Reached, At, after_turn, reach}
 use Rattle.kernel_contexts.specs.Several.{GoesBy}
-use Rattle.kernel_contexts.specs.Context.{state_of, config_of, thread_of, journal_of, is_home, IsSameThread}
+use Rattle.kernel_contexts.specs.Context.{state_of, config_of, thread_of, journal_of, is_home}
 use Rattle.kernel_contexts.specs.declared.context.Context.{Context}
 use Rattle.lone_runner.specs.Parting.{parting_at, state_at}
 use Rattle.lone_runner.specs.Replayed.{HasTicket}
 use Rattle.lone_runner.specs.Way.{IsOnItsWay, IsBefore}
-use Rattle.lone_runner.specs.declared.fault.AloneFault.{AloneFault}
 use Rattle.lone_runner.specs.declared.fault.AloneFault.TheVariants.{GoesOn}
 use Rattle.lone_runner.proofs.Partings.{compared, reach_next, reach_counts, count_later, not_some}
 use Rattle.lone_runner.proofs.Shown.{none_yet}

@@ -5,7 +5,7 @@ use Rattle.sm_types.specs.declared.shared_op.Event.{Event}
 use Rattle.sm_types.specs.declared.stop.Stop.{Stop}
 use Rattle.paged_memory.specs.Image.{Program}
 use Rattle.kernel_contexts.specs.State.{State}
-use Rattle.kernel_contexts.specs.Run.{At, Ended, reach, reach_from}
+use Rattle.kernel_contexts.specs.Run.{Ended, reach_from}
 use Rattle.lone_runner.specs.LoneRun.{IsLoneRun}
 use Rattle.lone_runner.specs.Parting.{IsParting, parting_at}
 use Rattle.lone_runner.specs.declared.fault.AloneFault.{AloneFault}

@@ -1,5 +1,7 @@
 //! The turns of a thread that a journal answers.
-ghost use Rattle.std.specs.Prelude.{◌≡◌, ◌≢◌, ◌+◌, ◌*◌, ◌<◌, ◌≤◌, ◌^◌, ◌++◌, length, None, Ok, Err, IfOk, IfErr};
+ghost use Rattle.std.specs.Prelude.{◌≡◌, ◌≢◌, ◌+◌, ◌*◌, ◌<◌, ◌≤◌, ◌^◌, ◌++◌, List, length, None, Ok, Err, IfOk};
+ghost use Rattle.std.specs.Prelude.{IfErr};
+ghost use Rattle.sm_types.specs.declared.shared_op.Event.{Event};
 ghost use Rattle.kernel_contexts.specs.Context.{state_of, config_of, stop_of, journal_of, IsSameThread};
 ghost use Rattle.kernel_contexts.specs.Context.{IsPlaceFree, MayWantMemory, GoesOrAsks, turn_at, save_area_of};
 ghost use Rattle.lone_runner.specs.Parting.{left_over, parting_at, parting_when};
@@ -57,12 +59,11 @@ pub fn make_turn(
     }
 }
 
-/// The fault of events that are left.
-fn left_over(ticket: &ReplayTicket) -> Option<AloneFault>
-    requires { length ticket.now.ahead < 2 ^ 32 }
-    ensures { result ≡ left_over ticket.now.ahead }
+/// The fault of so many events that are left.
+fn left_over(left: usize) -> Option<AloneFault>
+    requires { left < 2 ^ 32 }
+    ensures { (events : List Event) → length events ≡ left → result ≡ left_over events }
 {
-    let left = ticket.left();
     if left == 0 {
         None
     } else {
@@ -70,16 +71,12 @@ fn left_over(ticket: &ReplayTicket) -> Option<AloneFault>
     }
 }
 
-/// How a thread that has counted so many instructions parts, if it does; `stop` tells whether it has stopped.
+/// How a thread that has counted so many instructions parts, if it does, where so many events are left; `stop`
+/// tells whether it has stopped.
 #[inline]
-pub fn parting_of(
-    made: u32,
-    ticket: &ReplayTicket,
-    stop: Option<Stop>,
-    count: u32,
-) -> Option<AloneFault>
-    requires { length ticket.now.ahead < 2 ^ 32 }
-    ensures { result ≡ parting_when count made stop ticket.now.ahead }
+pub fn parting_of(made: u32, left: usize, stop: Option<Stop>, count: u32) -> Option<AloneFault>
+    requires { left < 2 ^ 32 }
+    ensures { (events : List Event) → length events ≡ left → result ≡ parting_when count made stop events }
 {
     let Some(stop) = stop else {
         return if made > count {
@@ -94,7 +91,7 @@ pub fn parting_of(
     if made > count {
         return Some(AloneFault::GoesOn(count));
     }
-    left_over(ticket)
+    left_over(left)
 }
 
 /// How the thread parts where it stands, if it does; `stop` tells whether it has stopped.
@@ -108,5 +105,5 @@ pub fn parting(
     requires { HasTicket context.now ticket.now }
     ensures { result ≡ parting_at count (place_of context.now ticket.now stop) }
 {
-    parting_of(context.count(), ticket, stop, count)
+    parting_of(context.count(), ticket.left(), stop, count)
 }

@@ -5,19 +5,20 @@ ghost use Rattle.kernel_contexts.specs.Loose.{loose_stop, IsSameLoose};
 ghost use Rattle.lone_runner.specs.Parting.{parting_at};
 ghost use Rattle.lone_runner.specs.Rest.{IsRestOfRun, IsPartingFrom};
 ghost use Rattle.lone_runner.specs.Resumed.{HasLooseTicket, IsLooseAstray, loose_next, loose_place};
-ghost use Rattle.lone_runner.specs.Resumed.{IsResumed, IsToResume};
+ghost use Rattle.lone_runner.specs.Resumed.{IsResumed, IsToResume, IsReached, IsPartingFromAll};
+ghost use Rattle.lone_runner.specs.Ticket.{whole_journal};
 
 use crate::fault::AloneFault;
 use crate::replay::parting_of;
+use crate::ticket::{JournalPort, JournalTicket, journal_stays};
 use kernel_contexts::{Loose, Turn};
-use shared_region::{ReplayPort, ReplayTicket, replay_journal_stays};
 use sm_types::{Event, Stop};
 use std::alloc::Global;
 
 /// Makes one turn of a thread that has not stopped: the stop with which it ends, `None` where it goes on, or
 /// the fault where it asks an operation that the next event does not answer.
 #[inline(always)]
-fn make_turn(loose: &mut Loose, ticket: &mut ReplayTicket) -> Result<Option<Stop>, AloneFault>
+fn make_turn(loose: &mut Loose, ticket: &mut JournalTicket) -> Result<Option<Stop>, AloneFault>
     requires ticket { HasLooseTicket loose.old ticket.old }
     requires runs { loose_stop loose.old ≡ None }
     ensures turn { IfOk result (λ stop.
@@ -27,12 +28,13 @@ fn make_turn(loose: &mut Loose, ticket: &mut ReplayTicket) -> Result<Option<Stop
     ensures stop { IfOk result (λ stop. loose_stop loose.new ≡ stop) }
     ensures ticket { HasLooseTicket loose.new ticket.new }
     ensures left { length ticket.new.ahead ≤ length ticket.old.ahead }
+    ensures whole { whole_journal ticket.new ≡ whole_journal ticket.old }
     ensures same { IsSameLoose loose.old loose.new }
     ensures made { result ≡ Ok None → (loose_state loose.new).turns ≡ (loose_state loose.old).turns + 1 }
     ensures few { (loose_state loose.new).turns ≤ 128 * (loose_config loose.new).budget }
 {
-    replay_journal_stays();
-    let mut port = ReplayPort::new();
+    journal_stays();
+    let mut port = JournalPort::new();
     match loose.advance(&mut port, ticket) {
         Turn::Ran => Ok(None),
         Turn::Yielded => Ok(None),
@@ -44,18 +46,59 @@ fn make_turn(loose: &mut Loose, ticket: &mut ReplayTicket) -> Result<Option<Stop
     }
 }
 
-/// Makes turns until the thread stops, or parts.
-fn follow(loose: &mut Loose, ticket: &mut ReplayTicket, count: u32) -> Result<Stop, AloneFault>
+/// Makes turns of a thread that has not passed a count, until so many instructions are counted, and tells the
+/// stop where the last turn ended its run; or until it parts before that: `JournalShort`, `JournalDiffers` or
+/// `EndsEarly`. A poll or a delivery that is due at the count is not made.
+pub fn resume_to(
+    loose: &mut Loose,
+    ticket: &mut JournalTicket,
+    count: u32,
+) -> Result<Option<Stop>, AloneFault>
+    requires { IsToResume loose.old ticket.old count }
+    ensures reached { IfOk result (λ stop.
+        IsReached loose.old ticket.old.ahead count loose.new stop ticket.new) }
+    ensures stop { IfOk result (λ stop. loose_stop loose.new ≡ stop) }
+    ensures parts { IfErr result (λ fault. fault ≢ AloneFault.Memory
+        → IsPartingFromAll loose.old ticket.old.ahead count fault) }
+    ensures ticket { HasLooseTicket loose.new ticket.new }
+    ensures whole { whole_journal ticket.new ≡ whole_journal ticket.old }
+    ensures same { IsSameLoose loose.old loose.new }
+{
+    'turns: while loose.count() < count {
+        let Some(stop) = make_turn(loose, ticket)? else {
+            let now = loose.count();
+            loose.advance_several(count - now);
+            continue;
+        };
+        let made = loose.count();
+        if made < count {
+            return Err(AloneFault::EndsEarly { count: made, stop });
+        }
+        return Ok(Some(stop));
+    }
+    Ok(None)
+}
+
+/// Makes turns of a thread that has not passed a count until it stops: when so many instructions are counted,
+/// with all events of its ticket used. Else the fault is the first by which it parts from that, an event being
+/// told by its place in the thread's journal; `Memory` is want of memory.
+pub fn resume_to_end(
+    loose: &mut Loose,
+    ticket: &mut JournalTicket,
+    count: u32,
+) -> Result<Stop, AloneFault>
     requires { IsToResume loose.old ticket.old count }
     ensures run { IfOk result (λ stop. IsResumed loose.old ticket.old.ahead count loose.new stop) }
     ensures parts { IfErr result (λ fault. fault ≢ AloneFault.Memory
         → IsPartingFrom (loose_config loose.old) (loose_thread loose.old) (loose_state loose.old)
         (loose_events loose.old) ticket.old.ahead count fault) }
+    ensures ticket { HasLooseTicket loose.new ticket.new }
+    ensures whole { whole_journal ticket.new ≡ whole_journal ticket.old }
     ensures same { IsSameLoose loose.old loose.new }
 {
     'turns: loop {
         let stop = make_turn(loose, ticket)?;
-        match parting_of(loose.count(), ticket, stop, count) {
+        match parting_of(loose.count(), ticket.left(), stop, count) {
             Some(fault) => return Err(fault),
             None => {}
         }
@@ -89,7 +132,7 @@ pub fn resume_alone(
 {
     let mut loose = loose;
     let events = Vec::from_slice(alloc, rest)?;
-    let mut ticket = ReplayTicket::new(loose.thread(), events);
-    let stop = follow(&mut loose, &mut ticket, count)?;
+    let mut ticket = JournalTicket::new(loose.thread(), events);
+    let stop = resume_to_end(&mut loose, &mut ticket, count)?;
     Ok((loose, stop))
 }

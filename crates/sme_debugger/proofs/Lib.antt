@@ -1,3 +1,8 @@
+pub mod Used
+pub mod Joined
+pub mod Keeping
+pub mod Standings
+pub mod Starting
 pub mod Recorded
 pub mod Moves
 pub mod Bytes

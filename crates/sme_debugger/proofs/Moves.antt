@@ -1,6 +1,6 @@
 -- Where commands lead, and what they print.
 use Rattle.std.proofs.Common.{◌≡◌, ◌≢◌, true, false, ℕ, ◌<◌, ◌≤◌, List, [], refl, ap, sym, arith, Ok, Err}
-use Rattle.std.specs.Prelude.{nat_lt, if◌then◌else◌}
+use Rattle.std.specs.Prelude.{nat_lt, if◌then◌else◌, Result, OnErr}
 use Rattle.std.proofs.lemmas.Bool.Decides.{nat_tests}
 use Rattle.edge_io.specs.Sink.{SinkView, Writes}
 use Rattle.edge_io.specs.declared.sink.PutFault.{PutFault}
@@ -44,3 +44,8 @@ prints_what_it_shows r from Za step back goto break = refl
 prints_what_it_shows r from (Slice elem tile direction number) step back goto break = refl
 prints_what_it_shows r from (Memory address size) step back goto break = refl
 prints_what_it_shows r from Where step back goto break = refl
+
+-- what holds, holds after a fault
+pub on_err : {P : Type 0} (r : Result Unit PutFault) → P → OnErr r P
+on_err (Ok x) p = tt
+on_err (Err fault) p = p

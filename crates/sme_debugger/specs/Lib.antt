@@ -1,6 +1,6 @@
 pub mod Recording
 pub mod Texts
 pub mod Answers
-pub mod Showing
+pub mod Standing
 pub mod Replayed
 pub mod Session

@@ -2,10 +2,12 @@
 use Rattle.std.specs.Prelude.{◌≡◌, ◌≢◌, ℕ, ◌<◌, List}
 use Rattle.sm_types.specs.declared.config.Config.{Config}
 use Rattle.sm_types.specs.declared.shared_op.Event.{Event}
+use Rattle.shared_region.specs.Ports.{ReplayEvents}
 use Rattle.paged_memory.specs.Image.{Program}
 use Rattle.kernel_contexts.specs.State.{State}
 use Rattle.kernel_contexts.specs.Run.{Reached, reach}
 use Rattle.lone_runner.specs.Parting.{state_at}
+use Rattle.lone_runner.specs.Ticket.{whole_journal}
 
 pub record Recording : Type 0 where
   pub program : Program
@@ -32,3 +34,13 @@ pub record Shows (r : Recording) (count : ℕ) (state : State) : Type 0 where
   pub reached : state_at (reached_by r turns) ≡ state
   pub counts : state.count ≡ count
   pub first : (earlier : ℕ) → earlier < turns → counts_by r earlier ≢ count
+
+-- the run over all events of a ticket
+abbrev pub recorded : Program → Config → ℕ → ReplayEvents → ℕ → Recording
+recorded program config thread ticket last = record {
+  program = program;
+  config = config;
+  thread = thread;
+  journal = whole_journal ticket;
+  last = last;
+}

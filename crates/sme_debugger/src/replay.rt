@@ -1,113 +1,233 @@
 //! A thread on its recorded run, which is brought to any count.
-ghost use Rattle.std.specs.Prelude.{◌≡◌, ◌<◌, ◌^◌, ◌++◌, length};
-ghost use Rattle.std.specs.Prelude.{IfOk};
-ghost use Rattle.kernel_contexts.specs.Context.{image_of, config_of, thread_of, journal_of};
-ghost use Rattle.lone_runner.specs.Replayed.{HasTicket, IsAtStart};
-ghost use Rattle.sme_debugger.specs.Showing.{IsShowing, IsShowing-prop};
+ghost use Rattle.std.specs.Prelude.{◌≡◌, ◌≢◌, ◌≤◌, ◌<◌, ◌^◌, length, None, IfOk, IfErr, OnOk};
+ghost use Rattle.std.specs.FinMap.{get};
+ghost use Rattle.shared_region.specs.Ports.{ReplayEvents};
+ghost use Rattle.kernel_contexts.specs.State.{start_state};
+ghost use Rattle.kernel_contexts.specs.Loose.{loose_state};
+ghost use Rattle.lone_runner.specs.Parting.{IsParting};
+ghost use Rattle.lone_runner.specs.Resumed.{IsToResume};
+ghost use Rattle.lone_runner.specs.Ticket.{whole_journal};
+ghost use Rattle.lone_runner.specs.declared.fault.AloneFault.{AloneFault};
+ghost use Rattle.kept_states.specs.Kept.{IsKept, kept_count};
+ghost use Rattle.sme_debugger.specs.Recording.{Recording, recorded};
+ghost use Rattle.sme_debugger.specs.Standing.{IsOnRun, AreOnRun, IsOfRun, IsShowing, IsKeeping};
+ghost use Rattle.sme_debugger.specs.Standing.{IsOnRun-prop, AreOnRun-prop, IsShowing-prop};
 
-use kernel_contexts::Context;
-use lone_runner::{AloneFault, run_on};
+use kept_states::KeptState;
+use kernel_contexts::{Context, Loose};
+use lone_runner::{AloneFault, JournalTicket, resume_to, resume_to_end};
 use paged_memory::Image;
-use shared_region::ReplayTicket;
-use sm_types::{Config, Event, Memory};
+use sm_types::{Config, Event, Memory, Stop};
 use std::alloc::Global;
 
-/// A guest thread on its run over the events that answer what it asks.
+/// A guest thread on its run over the events that answer what it asks, and states of the run that are kept: a
+/// move begins at the last of them that is not past its end.
 #[derive(Drop)]
 pub struct Replay {
     alloc: Global,
+    image: Image,
+    config: Config,
+    thread: u32,
+    /// How many instructions are counted where the run ends.
+    pub last: u32,
+    /// The state at the start of the run.
+    start: KeptState,
+    /// Later ones, by ascending count.
+    later: Vec<KeptState>,
     /// Somewhere on the run.
-    pub context: Context,
-    ticket: ReplayTicket,
+    pub loose: Loose,
+    /// Why it stopped, where it is known to show a count.
+    stop: Option<Stop>,
     /// All events of the run.
-    journal: Vec<Event>,
-    /// The count that the context shows, where it is known to show one.
+    ticket: JournalTicket,
+    /// The count that the thread shows, where it is known to show one.
     shown: Option<u32>,
-    ghost number: { thread_of context < (config_of context).threads },
-    ghost few: { length journal.items < 2 ^ 32 },
-    ghost held: { HasTicket context ticket },
-    ghost whole: { journal.items ≡ journal_of context ++ ticket.ahead },
-    ghost shows: { IsShowing shown context journal.items } by { IsShowing-prop shown context journal.items },
+    /// The count of the first kept state past the one from which the thread goes on.
+    until: u32,
+    ghost number: { thread < config.threads },
+    ghost few: { length (whole_journal ticket) < 2 ^ 32 },
+    ghost ends: { (fault : AloneFault) → ¬ IsParting image config thread (whole_journal ticket) last fault },
+    ghost start_on_run: { IsOnRun (recorded image config thread ticket last) start } by { IsOnRun-prop
+        (recorded image config thread ticket last) start },
+    ghost begins: { kept_count start ≡ 0 },
+    ghost later_on_run: { AreOnRun (recorded image config thread ticket last) later.items } by { AreOnRun-prop
+        (recorded image config thread ticket last) later.items },
+    ghost of_run: { IsOfRun (recorded image config thread ticket last) loose ticket },
+    ghost shows: { IsShowing (recorded image config thread ticket last) shown loose stop ticket } by { IsShowing-prop
+        (recorded image config thread ticket last) shown loose stop ticket },
 }
 
-/// A thread before its first turn, and its ticket for the events of a journal.
-fn start(
+/// How many states of a run are kept at most.
+const KEPT_STATES: u32 = 32;
+
+/// How many instructions lie between two of them at least: fewer are executed in less time than a state is
+/// kept.
+const LEAST_DISTANCE: u32 = 65_536;
+
+/// How many instructions lie between two states that are kept of a run of so many.
+fn distance_over(count: u32) -> u32
+    ensures { 1 ≤ result }
+{
+    (count / KEPT_STATES + 1).max(LEAST_DISTANCE)
+}
+
+/// The state of a thread before its first turn.
+fn keep_start(
     alloc: Global,
     image: &Image,
     config: &Config,
     thread: u32,
-    journal: &[Event],
-) -> Result<(Context, ReplayTicket), Memory>
+) -> Result<KeptState, Memory>
     requires thread { thread < config.now.threads }
-    requires few { length journal.now < 2 ^ 32 }
-    ensures start { IfOk result (λ started. IsAtStart started.0 started.1) }
-    ensures image { IfOk result (λ started. image_of started.0 ≡ image.now) }
-    ensures config { IfOk result (λ started. config_of started.0 ≡ config.now) }
-    ensures thread { IfOk result (λ started. thread_of started.0 ≡ thread) }
-    ensures journal { IfOk result (λ started. started.1.ahead ≡ journal.now) }
+    requires private { get image.now.memory.perm 0x7F0000000 ≡ None }
+    ensures { IfOk result (IsKept config.now thread 0 (start_state image.now config.now thread)) }
 {
     let context = Context::start(alloc, image, config, thread)?;
-    let Ok(events) = Vec::from_slice(alloc, journal) else {
-        return Err(Memory);
+    let found = KeptState::of_context(alloc, &context)?;
+    match found {
+        Some(kept) => Ok(kept),
+        None => unreachable!(),
+    }
+}
+
+/// The state that was kept last.
+fn last_kept<'a>(start: &'a KeptState, later: &'a [KeptState]) -> &'a KeptState {
+    if later.len() == 0 {
+        start
+    } else {
+        &later[later.len() - 1]
+    }
+}
+
+/// Keeps the state in which a thread stands, and tells whether it is kept.
+fn keep_state(alloc: Global, start: &KeptState, later: &mut Vec<KeptState>, loose: &Loose) -> bool
+    ensures { (r : Recording) (ticket : ReplayEvents) → IsKeeping r later.old.items loose.now ticket
+        → IsKeeping r later.new.items loose.now ticket }
+{
+    let Ok(Some(kept)) = KeptState::of_loose(alloc, loose, last_kept(start, later)) else {
+        return false;
     };
-    Ok((context, ReplayTicket::new(thread, events)))
+    later.push(kept).is_ok()
+}
+
+/// Takes a thread from the start of its run over the places at which states of it are kept, as long as they
+/// can be; it then stands at the last of them. The run is to end when `count` instructions are counted. A fault
+/// but `Memory` is the first by which it parts from that.
+fn keep_on_the_way(
+    alloc: Global,
+    start: &KeptState,
+    later: &mut Vec<KeptState>,
+    loose: &mut Loose,
+    ticket: &mut JournalTicket,
+    count: u32,
+) -> Result<(), AloneFault>
+    requires { IsToResume loose.old ticket.old 0 }
+    ensures keeps { (r : Recording) → IsKeeping r later.old.items loose.old ticket.old
+        → OnOk result (IsKeeping r later.new.items loose.new ticket.new) }
+    ensures goes { OnOk result (IsToResume loose.new ticket.new count) }
+    ensures parts { (r : Recording) → IsKeeping r later.old.items loose.old ticket.old → IfErr result (λ fault.
+        fault ≢ AloneFault.Memory → IsParting r.program r.config r.thread r.journal count fault) }
+{
+    let distance = u64::from(distance_over(count));
+    let mut next = 0;
+    'states: for _ in 1..KEPT_STATES {
+        next += distance;
+        if next >= u64::from(count) {
+            break;
+        }
+        match resume_to(loose, ticket, next as u32)? {
+            Some(stop) => {
+                return Err(AloneFault::EndsEarly {
+                    count: next as u32,
+                    stop,
+                });
+            }
+            None => {}
+        }
+        if !keep_state(alloc, start, later, loose) {
+            break;
+        }
+    }
+    Ok(())
 }
 
 impl Replay {
-    ghost use Rattle.std.specs.Prelude.{◌≢◌, true, false, Some, None, OnOk, IfErr};
-    ghost use Rattle.kernel_contexts.specs.Context.{stop_of};
-    ghost use Rattle.sme_debugger.specs.Replayed.{IsShownBy, PartsBefore, IsOnTheWay, IsSameRun};
+    ghost use Rattle.std.specs.Prelude.{true, false, Some};
+    ghost use Rattle.lone_runner.specs.Parting.{EndsAt};
+    ghost use Rattle.sme_debugger.specs.Recording.{Shows};
+    ghost use Rattle.sme_debugger.specs.Replayed.{recording_in, IsOnTheWay};
 
-    /// A thread at the start of its run. `Memory` is want of memory.
+    /// A thread on its run, which is to end at `count` with all events of the journal used. Else the fault is
+    /// the first by which the run parts from that; `Memory` is want of memory.
     pub fn new(
         alloc: Global,
-        image: &Image,
-        config: &Config,
+        image: Image,
+        config: Config,
         thread: u32,
         journal: Vec<Event>,
-    ) -> Result<Replay, Memory>
-        requires thread { thread < config.now.threads }
+        count: u32,
+    ) -> Result<Replay, AloneFault>
+        requires thread { thread < config.threads }
         requires few { length journal.items < 2 ^ 32 }
-        ensures image { IfOk result (λ r. image_of r.context ≡ image.now) }
-        ensures config { IfOk result (λ r. config_of r.context ≡ config.now) }
-        ensures thread { IfOk result (λ r. thread_of r.context ≡ thread) }
-        ensures journal { IfOk result (λ r. r.journal.items ≡ journal.items) }
+        ensures recording { IfOk result (λ replay. recording_in replay ≡ record {
+          program = image;
+          config = config;
+          thread = thread;
+          journal = journal.items;
+          last = count;
+        }) }
+        ensures ends { OnOk result (EndsAt image config thread journal.items count) }
+        ensures parts { IfErr result (λ fault. fault ≢ AloneFault.Memory
+            → IsParting image config thread journal.items count fault) }
     {
-        let (context, ticket) = start(alloc, image, config, thread, journal.as_slice())?;
+        let start = keep_start(alloc, &image, &config, thread)?;
+        let mut loose = start.resume(alloc)?;
+        let mut ticket = JournalTicket::new(thread, journal);
+        let mut later = Vec::new(alloc);
+        keep_on_the_way(alloc, &start, &mut later, &mut loose, &mut ticket, count)?;
+        let stop = resume_to_end(&mut loose, &mut ticket, count)?;
         Ok(Replay {
             alloc,
-            context,
+            image,
+            config,
+            thread,
+            last: count,
+            start,
+            later,
+            loose,
+            stop: Some(stop),
             ticket,
-            journal,
-            shown: Some(0),
+            shown: None,
+            until: 0,
         })
     }
 
-    /// Brings the context to where the run shows a count. A fault but `Memory` is that by which the run parts
-    /// before it; after `Memory` the context may stand anywhere on the run.
-    pub fn show(&mut self, count: u32) -> Result<(), AloneFault>
-        ensures shown { OnOk result (IsShownBy self.old count self.new.context) }
-        ensures parts { IfErr result (λ fault. fault ≢ AloneFault.Memory → PartsBefore self.old count fault) }
-        ensures same { IsSameRun self.old self.new }
+    /// Brings the thread to where the run shows a count that it has. After `Memory` it may stand anywhere on
+    /// the run.
+    pub fn show(&mut self, count: u32) -> Result<(), Memory>
+        requires { count ≤ self.old.last }
+        ensures shown { OnOk result (Shows (recording_in self.old) count (loose_state self.new.loose)) }
+        ensures same { recording_in self.new ≡ recording_in self.old }
     {
-        if self.is_on_the_way(count) {
-            return self.go_on(count);
+        if !self.is_on_the_way(count) {
+            self.begin_before(count)?;
         }
-        self.restart()?;
         self.go_on(count)
     }
 
-    /// Whether the context shows the count, or an earlier one from which it goes on.
+    /// Whether the thread shows the count, or an earlier one from which it goes on, past no kept state.
     fn is_on_the_way(&self, count: u32) -> bool
         ensures { result ≡ true → IsOnTheWay self.now count }
     {
         match self.shown {
-            Some(shown) => { shown == count || (shown < count && self.context.stop().is_none()) }
+            Some(shown) => {
+                shown == count || (shown < count && count < self.until && self.stop.is_none())
+            }
             None => false,
         }
     }
 
-    /// Whether the context is known to show the count.
+    /// Whether the thread is known to show the count.
     fn shows(&self, count: u32) -> bool
         ensures there { result ≡ true → self.now.shown ≡ Some count }
         ensures apart { result ≡ false → self.now.shown ≢ Some count }
@@ -118,38 +238,70 @@ impl Replay {
         }
     }
 
-    /// Brings the context to the start of the run.
-    fn restart(&mut self) -> Result<(), Memory>
-        ensures start { OnOk result (self.new.shown ≡ Some 0) }
-        ensures runs { OnOk result (stop_of self.new.context ≡ None) }
-        ensures same { IsSameRun self.old self.new }
+    /// The last kept state that is not past a count.
+    fn kept_before(&self, count: u32) -> &KeptState
+        ensures on_run { IsOnRun (recording_in self.now) result.now }
+        ensures most { kept_count result.now ≤ count }
     {
-        let (context, ticket) = start(
-            self.alloc,
-            self.context.image(),
-            self.context.config(),
-            self.context.thread(),
-            self.journal.as_slice(),
-        )?;
-        self.context = context;
-        self.ticket = ticket;
-        self.shown = Some(0);
+        let mut number = self.later.len();
+        while number > 0 {
+            number -= 1;
+            if self.later[number].count() <= count {
+                return &self.later[number];
+            }
+        }
+        &self.start
+    }
+
+    /// The count of the first kept state past one; the greatest number where there is none.
+    fn kept_past(&self, count: u32) -> u32 {
+        for kept in &self.later {
+            if kept.count() > count {
+                return kept.count();
+            }
+        }
+        u32::MAX
+    }
+
+    /// Brings the thread to the last kept state that is not past a count.
+    fn begin_before(&mut self, count: u32) -> Result<(), Memory>
+        ensures way { OnOk result (IsOnTheWay self.new count) }
+        ensures same { recording_in self.new ≡ recording_in self.old }
+    {
+        let kept = self.kept_before(count);
+        let loose = kept.resume(self.alloc)?;
+        let shown = kept.count();
+        let events = kept.events() as usize;
+        let until = self.kept_past(shown);
+        self.ticket.set_answered(events);
+        self.loose = loose;
+        self.stop = None;
+        self.shown = Some(shown);
+        self.until = until;
         Ok(())
     }
 
-    /// Brings the context forwards to where the run shows a count.
-    fn go_on(&mut self, count: u32) -> Result<(), AloneFault>
+    /// Brings the thread forwards to where the run shows a count.
+    fn go_on(&mut self, count: u32) -> Result<(), Memory>
         requires way { IsOnTheWay self.old count }
-        ensures shown { OnOk result (IsShownBy self.old count self.new.context) }
-        ensures parts { IfErr result (λ fault. fault ≢ AloneFault.Memory → PartsBefore self.old count fault) }
-        ensures same { IsSameRun self.old self.new }
+        requires last { count ≤ self.old.last }
+        ensures shown { OnOk result (Shows (recording_in self.old) count (loose_state self.new.loose)) }
+        ensures same { recording_in self.new ≡ recording_in self.old }
     {
         if self.shows(count) {
             return Ok(());
         }
         self.shown = None;
-        run_on(&mut self.context, &mut self.ticket, count)?;
-        self.shown = Some(count);
-        Ok(())
+        match resume_to(&mut self.loose, &mut self.ticket, count) {
+            Ok(stop) => {
+                self.stop = stop;
+                self.shown = Some(count);
+                Ok(())
+            }
+            Err(fault) => match fault {
+                AloneFault::Memory => Err(Memory),
+                _ => unreachable!(),
+            },
+        }
     }
 }

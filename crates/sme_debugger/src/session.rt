@@ -1,14 +1,11 @@
 //! A session of a debugger.
 ghost use Rattle.std.specs.Prelude.{◌≡◌, ◌≤◌};
-ghost use Rattle.kernel_contexts.specs.Context.{image_of, config_of, thread_of};
-ghost use Rattle.lone_runner.specs.Parting.{IsParting};
-ghost use Rattle.lone_runner.specs.declared.fault.AloneFault.{AloneFault};
 
 use crate::fault::DebugFault;
 use crate::replay::Replay;
 use crate::texts::{write_end, write_state};
 use edge_io::{PutFault, Sink};
-use lone_runner::{AloneFault, run_alone};
+use lone_runner::AloneFault;
 use paged_memory::Image;
 use script_reader::DebugCommand;
 use sm_types::{Config, Event, Memory};
@@ -19,21 +16,15 @@ use std::alloc::Global;
 #[derive(Drop)]
 pub struct Session {
     replay: Replay,
-    /// Where the run ends.
-    last: u32,
     place: u32,
-    ghost ends: { (fault : AloneFault) → ¬ IsParting (image_of replay.context) (config_of replay.context)
-        (thread_of replay.context) replay.journal.items last fault },
-    ghost within: { place ≤ last },
+    ghost within: { place ≤ replay.last },
 }
 
 impl Session {
     ghost use Rattle.std.specs.Prelude.{◌≢◌, ◌+◌, ◌<◌, ◌^◌, length, Ok, Err, IfOk, IfErr, OnOk, OnErr};
     ghost use Rattle.std.specs.Prelude.{MatchOption};
     ghost use Rattle.edge_io.specs.Sink.{Writes};
-    ghost use Rattle.kernel_contexts.specs.Context.{state_of};
-    ghost use Rattle.lone_runner.specs.Parting.{EndsAt};
-    ghost use Rattle.sme_debugger.specs.Recording.{Shows};
+    ghost use Rattle.lone_runner.specs.Parting.{EndsAt, IsParting};
     ghost use Rattle.sme_debugger.specs.Answers.{Answers, Goes, Breaks, Prints, IsNext, HasNone, shown_text};
     ghost use Rattle.sme_debugger.specs.Answers.{end_text, IsWritten, IsPartWritten};
     ghost use Rattle.sme_debugger.specs.Session.{recording_of, place_of};
@@ -62,13 +53,8 @@ impl Session {
         ensures parts { IfErr result (λ fault. fault ≢ AloneFault.Memory
             → IsParting image config thread journal.items count fault) }
     {
-        let _ended = run_alone(alloc, &image, &config, thread, journal.as_slice(), count)?;
-        let replay = Replay::new(alloc, &image, &config, thread, journal)?;
-        Ok(Session {
-            replay,
-            last: count,
-            place: 0,
-        })
+        let replay = Replay::new(alloc, image, config, thread, journal, count)?;
+        Ok(Session { replay, place: 0 })
     }
 
     /// Carries out a command: its text is written, and the session then stands where the command leads. After
@@ -109,14 +95,14 @@ impl Session {
 
     /// Stands at a count; where that is past the end of the run, at the last count, which is told.
     fn go_to<K: Sink>(&mut self, aim: u64, out: &mut K) -> Result<(), PutFault>
-        ensures done { OnOk result (IsWritten (Goes self.old.last aim) (place_of self.new) (K.view out.old)
-            (K.view out.new) (Ok tt)) }
-        ensures put { OnErr result (IsPartWritten (Goes self.old.last aim) (K.view out.old) (K.view out.new)
-            (Err PutFault.Failed)) }
+        ensures done { OnOk result (IsWritten (Goes self.old.replay.last aim) (place_of self.new)
+            (K.view out.old) (K.view out.new) (Ok tt)) }
+        ensures put { OnErr result (IsPartWritten (Goes self.old.replay.last aim) (K.view out.old)
+            (K.view out.new) (Err PutFault.Failed)) }
         ensures stays { OnErr result (place_of self.new ≡ place_of self.old) }
         ensures same { recording_of self.new ≡ recording_of self.old }
     {
-        if aim > u64::from(self.last) {
+        if aim > u64::from(self.replay.last) {
             self.end(out)?;
             return Ok(());
         }
@@ -126,13 +112,13 @@ impl Session {
 
     /// Stands at the last count, and tells so.
     fn end<K: Sink>(&mut self, out: &mut K) -> Result<(), PutFault>
-        ensures written { Writes (K.view out.old) (K.view out.new) result (end_text self.old.last) }
-        ensures done { OnOk result (place_of self.new ≡ self.old.last) }
+        ensures written { Writes (K.view out.old) (K.view out.new) result (end_text self.old.replay.last) }
+        ensures done { OnOk result (place_of self.new ≡ self.old.replay.last) }
         ensures stays { OnErr result (place_of self.new ≡ place_of self.old) }
         ensures same { recording_of self.new ≡ recording_of self.old }
     {
-        write_end(self.last, out)?;
-        self.place = self.last;
+        write_end(self.replay.last, out)?;
+        self.place = self.replay.last;
         Ok(())
     }
 
@@ -163,11 +149,12 @@ impl Session {
         ensures stays { place_of self.new ≡ place_of self.old }
         ensures same { recording_of self.new ≡ recording_of self.old }
     {
+        let last = self.replay.last;
         let mut count = self.place;
-        'counts: while count < self.last {
+        'counts: while count < last {
             count += 1;
-            self.show(count)?;
-            if self.replay.context.machine().scalars.pc == address {
+            self.replay.show(count)?;
+            if self.replay.loose.machine().scalars.pc == address {
                 return Ok(Some(count));
             }
         }
@@ -186,24 +173,8 @@ impl Session {
         ensures stays { OnErr result (place_of self.new ≡ place_of self.old) }
         ensures same { recording_of self.new ≡ recording_of self.old }
     {
-        self.show(self.place)?;
-        write_state(&self.replay.context, command, out)?;
+        self.replay.show(self.place)?;
+        write_state(&self.replay.loose, command, out)?;
         Ok(())
-    }
-
-    /// Brings the context to where the run shows a count that it has.
-    fn show(&mut self, count: u32) -> Result<(), Memory>
-        requires { count ≤ self.old.last }
-        ensures shown { OnOk result (Shows (recording_of self.old) count (state_of self.new.replay.context)) }
-        ensures stays { place_of self.new ≡ place_of self.old }
-        ensures same { recording_of self.new ≡ recording_of self.old }
-    {
-        match self.replay.show(count) {
-            Ok(()) => Ok(()),
-            Err(fault) => match fault {
-                AloneFault::Memory => Err(Memory),
-                _ => unreachable!(),
-            },
-        }
     }
 }

@@ -5,7 +5,7 @@ ghost use Rattle.edge_io.specs.Pieces.{gathered, Gathers};
 ghost use Rattle.edge_io.specs.Sink.{Writes};
 ghost use Rattle.paged_memory.specs.Memory.{bytes_with};
 ghost use Rattle.tile_ops.specs.Slices.{slice_bytes};
-ghost use Rattle.kernel_contexts.specs.Context.{state_of, is_home};
+ghost use Rattle.kernel_contexts.specs.Loose.{loose_state};
 ghost use Rattle.sme_debugger.specs.Answers.{end_text, shown_text};
 ghost use Rattle.report_text.specs.State.{lines_text};
 ghost use Rattle.sme_debugger.specs.Texts.{bytes_text, is_there, is_vertical, slice_named};
@@ -15,7 +15,7 @@ use arrayvec::ArrayString;
 use edge_io::{Piece, PutFault, Sink, write_parts};
 use insn_decode::decode;
 use insn_text::print_word;
-use kernel_contexts::Context;
+use kernel_contexts::Loose;
 use paged_memory::Pages;
 use report_text::{StateView, put_lines};
 use script_reader::{DebugCommand, Direction};
@@ -63,14 +63,13 @@ const REGISTER_LINES: [LineKind; 10] = [
 fn put_state_lines<K: Sink>(
     piece: &mut Piece,
     out: &mut K,
-    context: &Context,
+    loose: &Loose,
     kinds: &[LineKind],
 ) -> Result<(), PutFault>
-    requires { is_home context.now ≡ true }
     ensures { Gathers (gathered (K.view out.old) piece.old) (gathered (K.view out.new) piece.new) result
-        (lines_text (state_of context.now) kinds.now) }
+        (lines_text (loose_state loose.now) kinds.now) }
 {
-    put_lines(piece, out, &StateView::of(context), kinds)
+    put_lines(piece, out, &StateView::of_loose(loose), kinds)
 }
 
 /// Whether ZA has a slice.
@@ -219,18 +218,14 @@ fn put_insn<K: Sink>(piece: &mut Piece, out: &mut K, word: Option<u32>) -> Resul
 }
 
 /// The line of the place: how many instructions are counted, PC and the instruction there.
-fn put_place_line<K: Sink>(
-    piece: &mut Piece,
-    out: &mut K,
-    context: &Context,
-) -> Result<(), PutFault>
+fn put_place_line<K: Sink>(piece: &mut Piece, out: &mut K, loose: &Loose) -> Result<(), PutFault>
     ensures { Gathers (gathered (K.view out.old) piece.old) (gathered (K.view out.new) piece.new) result
-        (place_text (state_of context.now)) }
+        (place_text (loose_state loose.now)) }
 {
-    let machine = context.machine();
+    let machine = loose.machine();
     let pc = machine.scalars.pc;
     let mut buffer = itoa::Buffer::new();
-    let count = buffer.format(context.count()).as_bytes();
+    let count = buffer.format(loose.count()).as_bytes();
     let digits = hex64_digits(pc);
     piece.put_all(out, &[b"at ", count, b" ", &digits, b" "])?;
     put_insn(piece, out, listed_word(&machine.pages, pc))?;
@@ -241,18 +236,17 @@ fn put_place_line<K: Sink>(
 fn put_state<K: Sink>(
     piece: &mut Piece,
     out: &mut K,
-    context: &Context,
+    loose: &Loose,
     command: DebugCommand,
 ) -> Result<(), PutFault>
-    requires { is_home context.now ≡ true }
     ensures { Gathers (gathered (K.view out.old) piece.old) (gathered (K.view out.new) piece.new) result
-        (shown_text command (state_of context.now)) }
+        (shown_text command (loose_state loose.now)) }
 {
-    let machine = context.machine();
-    let za = &context.bank().za;
+    let machine = loose.machine();
+    let za = &loose.bank().za;
     match command {
-        DebugCommand::Registers => put_state_lines(piece, out, context, &REGISTER_LINES),
-        DebugCommand::Za => put_state_lines(piece, out, context, &[LineKind::Za]),
+        DebugCommand::Registers => put_state_lines(piece, out, loose, &REGISTER_LINES),
+        DebugCommand::Za => put_state_lines(piece, out, loose, &[LineKind::Za]),
         DebugCommand::Slice {
             elem,
             tile,
@@ -265,7 +259,7 @@ fn put_state<K: Sink>(
         DebugCommand::Memory { address, length } => {
             put_memory_line(piece, out, &machine.pages, address, length)
         }
-        DebugCommand::Where => put_place_line(piece, out, context),
+        DebugCommand::Where => put_place_line(piece, out, loose),
         DebugCommand::Step { count: _ } => piece.put_all(out, &[]),
         DebugCommand::Back { count: _ } => piece.put_all(out, &[]),
         DebugCommand::Goto { count: _ } => piece.put_all(out, &[]),
@@ -275,14 +269,13 @@ fn put_state<K: Sink>(
 
 /// Writes what a command shows of a thread; nothing of a move.
 pub fn write_state<K: Sink>(
-    context: &Context,
+    loose: &Loose,
     command: DebugCommand,
     out: &mut K,
 ) -> Result<(), PutFault>
-    requires { is_home context.now ≡ true }
-    ensures { Writes (K.view out.old) (K.view out.new) result (shown_text command (state_of context.now)) }
+    ensures { Writes (K.view out.old) (K.view out.new) result (shown_text command (loose_state loose.now)) }
 {
     let mut piece = Piece::new();
-    put_state(&mut piece, out, context, command)?;
+    put_state(&mut piece, out, loose, command)?;
     piece.flush(out)
 }

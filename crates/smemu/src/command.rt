@@ -168,7 +168,7 @@ fn debug_thread<F: Files>(
     let file = open_program(alloc, program, files)?;
     let read = open_report(alloc, report, files)?;
     let commands = open_script(alloc, script, files)?;
-    debug_report(alloc, file, &read, thread, commands)
+    debug_report(alloc, file, read, thread, commands)
 }
 
 /// `abi-check PROGRAM REPORT THREAD`: the check of the marked calls of that thread of the report.

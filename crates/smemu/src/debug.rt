@@ -39,22 +39,22 @@ fn open_session(
     image: Image,
     config: Config,
     thread: u32,
-    block: &ReportBlock,
+    block: ReportBlock,
 ) -> Result<Session, Refusal>
     requires { thread < config.threads }
     ensures recording { IfOk result (λ session. recording_of session ≡ record {
       program = image;
       config = config;
       thread = thread;
-      journal = block.now.journal.items;
-      last = block.now.count;
+      journal = block.journal.items;
+      last = block.count;
     }) }
     ensures place { IfOk result (λ session. place_of session ≡ 0) }
-    ensures ends { OnOk result (EndsAt image config thread block.now.journal.items block.now.count) }
-    ensures parted { IfErr result (IsPartedRefusal image config thread (block_said block.now)) }
+    ensures ends { OnOk result (EndsAt image config thread block.journal.items block.count) }
+    ensures parted { IfErr result (IsPartedRefusal image config thread (block_said block)) }
 {
-    let journal = Vec::from_slice(alloc, block.journal.as_slice())?;
-    match Session::new(alloc, image, config, thread, journal, block.count) {
+    let count = block.count;
+    match Session::new(alloc, image, config, thread, block.journal, count) {
         Ok(session) => Ok(session),
         Err(AloneFault::Memory) => Err(Refusal::Memory),
         Err(fault) => Err(Refusal::Ended(Ending::Differs(Difference::Parts(fault)))),
@@ -65,20 +65,21 @@ fn open_session(
 pub fn debug_report(
     alloc: Global,
     file: Opened<Image>,
-    report: &Opened<Report>,
+    report: Opened<Report>,
     thread: u32,
     script: Opened<Vec<DebugCommand>>,
 ) -> Result<Answer, Refusal>
     requires loads { Loads file.bytes.items file.content }
-    requires reads { report_in report.now.bytes.items ≡ Ok (report_said report.now.content) }
-    requires cores { report.now.content.config.cores ≡ 1 }
+    requires reads { report_in report.bytes.items ≡ Ok (report_said report.content) }
+    requires cores { report.content.config.cores ≡ 1 }
     requires script { script_in script.bytes.items ≡ Ok script.content.items }
-    ensures { EndsDebug file.bytes.items report.now.bytes.items thread script.bytes.items result }
+    ensures { EndsDebug file.bytes.items report.bytes.items thread script.bytes.items result }
 {
-    let content = &report.content;
-    check_match(file.bytes.as_slice(), thread, content)?;
-    let block = &content.blocks[thread as usize];
-    let session = open_session(alloc, file.content, content.config, thread, block)?;
+    check_match(file.bytes.as_slice(), thread, &report.content)?;
+    let config = report.content.config;
+    let mut blocks = report.content.blocks;
+    let block = blocks.swap_remove(thread as usize);
+    let session = open_session(alloc, file.content, config, thread, block)?;
     Ok(Answer::Session(Debugging {
         session,
         commands: script.content,

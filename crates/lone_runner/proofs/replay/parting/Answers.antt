@@ -9,5 +9,5 @@ pub returns : goal.returns
 returns c =
     let context = c.args.context.now in
     let ahead = c.args.ticket.now.ahead in
-    c.parting_of.ensures ∙ ap (λ made. parting_when c.args.count made c.args.stop ahead) c.count.ensures
+    c.parting_of.ensures ahead (sym c.left.ensures) ∙ ap (λ made. parting_when c.args.count made c.args.stop ahead) c.count.ensures
     ∙ sym (parting_is c.args.count (state_of context) c.args.stop (length (journal_of context)) ahead)

@@ -1,6 +1,6 @@
 use Rattle.std.proofs.Common.{◌∙◌, ap, refl}
 use Rattle.std.specs.Prelude.{decimal}
-use Rattle.kernel_contexts.specs.Context.{state_of}
+use Rattle.kernel_contexts.specs.Loose.{loose_state}
 use Rattle.machine_step.specs.declared.machine.Machine.{Machine}
 use Rattle.text_lines.specs.Lines.{hex64}
 use Rattle.edge_io.proofs.Gathering.{as_text, and_then, and_stop, and_end}
@@ -10,7 +10,7 @@ use Rattle.sme_debugger.proofs.texts.put_place_line.Goals as goal
 
 pub returns-in_err-put_all : goal.returns-in_err-put_all
 returns-in_err-put_all g c =
-    let s = state_of c.args.context.now in
+    let s = loose_state c.args.loose.now in
     let counts = c.as_bytes-count.ensures.value ∙ c.format.ensures.text ∙ ap decimal c.count.ensures in
     let there = c.hex64_digits-digits.ensures ∙ ap (λ (m : Machine). hex64 m.scalars.pc) c.machine-machine.ensures in
     as_text (place_first s c.as_bytes-count.result.now c.hex64_digits-digits.result _ counts there refl)
@@ -18,7 +18,7 @@ returns-in_err-put_all g c =
 
 pub returns-in_err-put_insn : goal.returns-in_err-put_insn
 returns-in_err-put_insn g c =
-    let s = state_of c.args.context.now in
+    let s = loose_state c.args.loose.now in
     let counts = c.as_bytes-count.ensures.value ∙ c.format.ensures.text ∙ ap decimal c.count.ensures in
     let there = c.hex64_digits-digits.ensures ∙ ap (λ (m : Machine). hex64 m.scalars.pc) c.machine-machine.ensures in
     let listed = c.listed_word.ensures ∙ ap (λ (m : Machine). listed_word m.pages.memory m.scalars.pc) c.machine-machine.ensures in
@@ -27,7 +27,7 @@ returns-in_err-put_insn g c =
 
 pub returns : goal.returns
 returns g c =
-    let s = state_of c.args.context.now in
+    let s = loose_state c.args.loose.now in
     let counts = c.as_bytes-count.ensures.value ∙ c.format.ensures.text ∙ ap decimal c.count.ensures in
     let there = c.hex64_digits-digits.ensures ∙ ap (λ (m : Machine). hex64 m.scalars.pc) c.machine-machine.ensures in
     let listed = c.listed_word.ensures ∙ ap (λ (m : Machine). listed_word m.pages.memory m.scalars.pc) c.machine-machine.ensures in

@@ -1,33 +1,53 @@
-use Rattle.std.proofs.Common.{◌≢◌, ◌<◌, List, Some, sym, ◌∙◌, ap, subst, arith}
-use Rattle.sm_types.specs.declared.shared_op.Event.{Event}
-use Rattle.kernel_contexts.specs.Context.{image_of, config_of, thread_of}
-use Rattle.lone_runner.specs.Parting.{IsPartingBefore}
-use Rattle.lone_runner.specs.Way.{IsBefore}
-use Rattle.lone_runner.specs.declared.fault.AloneFault.{AloneFault}
-use Rattle.lone_runner.specs.declared.fault.AloneFault.TheVariants.{Memory}
-use Rattle.lone_runner.proofs.Given.{passed_on}
-use Rattle.lone_runner.proofs.Later.{before_later}
-use Rattle.sme_debugger.specs.Replayed.{PartsBefore}
+use Rattle.std.proofs.Common.{◌∙◌}
+use Rattle.sme_debugger.proofs.Standings.{few_still, ends_still, start_still, later_still, shown_still, none_shown, to_resume, comes_to, never_parts}
+use Rattle.sme_debugger.proofs.Standings.{rerecorded}
 use Rattle.sme_debugger.proofs.replay.Replay.go_on.Goals as goal
 
-pub run_on-requires-clause-before : goal.run_on-requires-clause-before
-run_on-requires-clause-before c =
-    let s = c.args.self.now in
-    let way = c.requires.way in
-    let apart : way.shown ≢ c.args.count = λ same. c.shows.ensures.apart c.if-shows.false (way.is ∙ ap Some same) in
-    let most = way.most in
-    let less : way.shown < c.args.count = omega (arith, apart, most) in
-    subst
-    (λ (l : List Event). IsBefore (image_of s.context) (config_of s.context) (thread_of s.context) l c.args.count s.context s.ticket)
-    s.whole
-    (before_later (image_of s.context) (config_of s.context) (thread_of s.context) s.journal.items way.shown c.args.count s.context s.ticket
-    (s.shows way.shown way.is) (way.runs less) s.whole less)
+pub resume_to-requires : goal.resume_to-requires
+resume_to-requires c = to_resume c.args.self.now c.args.count c.requires.way (c.shows.ensures.apart c.if-shows.false)
 
-pub returns-in_err-run_on-clause-parts : goal.returns-in_err-run_on-clause-parts
-returns-in_err-run_on-clause-parts c =
+pub invariant_of-self : goal.invariant_of-self
+invariant_of-self c =
     let s = c.args.self.now in
-    let fault = c.in_err-run_on.field-0.0 in
-    passed_on c.from_residual.result fault (λ (f : AloneFault). f ≢ Memory → PartsBefore s c.args.count f) c.from_residual.ensures.1
-    (λ told. subst
-    (λ (l : List Event). IsPartingBefore (image_of s.context) (config_of s.context) (thread_of s.context) l c.args.count fault)
-    (sym s.whole) (c.in_err-run_on.ensures.parts told))
+    let e = c.in-Ok.ensures in
+    let after = c.resume_to.new.ticket in
+    record {
+      number = s.number;
+      few = few_still s after e.whole;
+      ends = ends_still s after e.whole;
+      start_on_run = start_still s after e.whole;
+      begins = s.begins;
+      later_on_run = later_still s after e.whole;
+      of_run = record {
+        config_is = e.same.config ∙ s.of_run.config_is;
+        thread_is = e.same.thread ∙ s.of_run.thread_is;
+        number = e.ticket.number ∙ e.same.thread ∙ s.of_run.thread_is;
+      };
+      shows = shown_still s after e.whole c.args.count c.resume_to.new.loose c.in-Ok.stop
+          (comes_to s c.args.count c.requires.way (c.shows.ensures.apart c.if-shows.false) c.resume_to.new.loose c.in-Ok.stop after e.reached e.stop);
+    }
+
+pub invariant_of-self-in-Err-1 : goal.invariant_of-self-in-Err-1
+invariant_of-self-in-Err-1 c =
+    let s = c.args.self.now in
+    let e = c.resume_to.ensures in
+    let after = c.resume_to.new.ticket in
+    record {
+      number = s.number;
+      few = few_still s after e.whole;
+      ends = ends_still s after e.whole;
+      start_on_run = start_still s after e.whole;
+      begins = s.begins;
+      later_on_run = later_still s after e.whole;
+      of_run = record {
+        config_is = e.same.config ∙ s.of_run.config_is;
+        thread_is = e.same.thread ∙ s.of_run.thread_is;
+        number = e.ticket.number ∙ e.same.thread ∙ s.of_run.thread_is;
+      };
+      shows = none_shown (rerecorded s after e.whole) c.resume_to.new.loose s.stop after;
+    }
+
+pub unreachable-requires : goal.unreachable-requires
+unreachable-requires c =
+    never_parts c.args.self.now c.args.count c.requires.way (c.shows.ensures.apart c.if-shows.false) c.in-Err.fault c.requires.last
+    (c.in-Err.ensures.parts c.in_default.not-Memory)

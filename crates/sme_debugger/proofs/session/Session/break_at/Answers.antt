@@ -23,9 +23,9 @@ returns-in_ok-end-in-None-clause-done g c =
     let from = place_of c.args.self.now in
     let none = subst (λ (o : Option ℕ). MatchOption o (HasNone r from c.args.address) (IsNext r from c.args.address)) c.in-None.is
     c.in_ok-count.ensures.next in
-    let last : c.next_at.new.self.last ≡ r.last = ap (λ (q : Recording). q.last) c.in_ok-count.ensures.same in
+    let last : c.next_at.new.self.replay.last ≡ r.last = ap (λ (q : Recording). q.last) c.in_ok-count.ensures.same in
     record {
-      text = end_text c.next_at.new.self.last;
+      text = end_text c.next_at.new.self.replay.last;
       answer = inr (none, c.in_ok-end-in-None.ensures.done ∙ last, ap end_text last);
       written = c.in_ok-end-in-None.ensures.written;
     }
@@ -36,11 +36,11 @@ returns-in_err-end-in-None-clause-put g c = λ _.
     let from = place_of c.args.self.now in
     let none = subst (λ (o : Option ℕ). MatchOption o (HasNone r from c.args.address) (IsNext r from c.args.address)) c.in-None.is
     c.in_ok-count.ensures.next in
-    let last : c.next_at.new.self.last ≡ r.last = ap (λ (q : Recording). q.last) c.in_ok-count.ensures.same in
+    let last : c.next_at.new.self.replay.last ≡ r.last = ap (λ (q : Recording). q.last) c.in_ok-count.ensures.same in
     record {
       place = r.last;
       is = record {
-        text = end_text c.next_at.new.self.last;
+        text = end_text c.next_at.new.self.replay.last;
         answer = inr (none, refl, ap end_text last);
         written = only_failed _ _ _ _ c.in_err-end-in-None.ensures.written;
       };

@@ -1,5 +1,5 @@
 use Rattle.std.proofs.Common.{◌≡◌, ◌+◌, arith, refl, sym, ap, subst, ◌∙◌}
-use Rattle.kernel_contexts.specs.Context.{state_of}
+use Rattle.kernel_contexts.specs.Loose.{loose_state}
 use Rattle.machine_step.specs.declared.machine.Machine.{Machine}
 use Rattle.sme_debugger.specs.Recording.{Recording, Shows}
 use Rattle.sme_debugger.specs.Answers.{NoneBetween}
@@ -16,17 +16,21 @@ counts-init c = record {
   same = refl;
 }
 
+pub show-requires : goal.show-requires
+show-requires c =
+    let last : c.counts.self.replay.last ≡ c.args.self.now.replay.last = ap (λ (r : Recording). r.last) c.counts.invariant.same in
+    let less = c.counts-test.true in omega (arith, last, less)
+
 pub returns-then-machine-address-clause-next : goal.returns-then-machine-address-clause-next
 returns-then-machine-address-clause-next c =
     let h = c.counts.invariant in
     let above = h.above in
-    let last : c.counts.self.last ≡ c.args.self.now.last = ap (λ (r : Recording). r.last) h.same in
     let less = c.counts-test.true in
     record {
       above = omega (arith, above);
-      within = omega (arith, last, less);
-      state = state_of c.show.new.self.replay.context;
-      shown = subst (λ (r : Recording). Shows r (c.counts.count + 1) (state_of c.show.new.self.replay.context)) h.same
+      within = omega (arith, less);
+      state = loose_state c.show.new.self.loose;
+      shown = subst (λ (r : Recording). Shows r (c.counts.count + 1) (loose_state c.show.new.self.loose)) h.same
           c.in_ok-show.ensures.shown;
       there = ap (λ (m : Machine). m.scalars.pc) (sym c.machine.ensures) ∙ c.if-machine-address.true;
       first = h.none;
@@ -36,17 +40,16 @@ pub counts-preserved : goal.counts-preserved
 counts-preserved c =
     let h = c.counts.invariant in
     let above = h.above in
-    let last : c.show.new.self.last ≡ c.counts.self.last = ap (λ (r : Recording). r.last) c.in_ok-show.ensures.same in
     let less = c.counts-test.true in
     record {
       above = omega (arith, above);
-      within = omega (arith, last, less);
+      within = omega (arith, less);
       none = none_more (recording_of c.args.self.now) (place_of c.args.self.now) (c.counts.count + 1) c.args.address
-          (state_of c.show.new.self.replay.context) h.none
-          (subst (λ (r : Recording). Shows r (c.counts.count + 1) (state_of c.show.new.self.replay.context)) h.same
+          (loose_state c.show.new.self.loose) h.none
+          (subst (λ (r : Recording). Shows r (c.counts.count + 1) (loose_state c.show.new.self.loose)) h.same
           c.in_ok-show.ensures.shown)
           (λ there. c.if-machine-address.false (ap (λ (m : Machine). m.scalars.pc) c.machine.ensures ∙ there));
-      place = c.in_ok-show.ensures.stays ∙ h.place;
+      place = h.place;
       same = c.in_ok-show.ensures.same ∙ h.same;
     }
 
@@ -54,7 +57,6 @@ pub returns-clause-next : goal.returns-clause-next
 returns-clause-next c =
     let h = c.counts.invariant in
     let within = h.within in
-    let last : c.counts.self.last ≡ c.args.self.now.last = ap (λ (r : Recording). r.last) h.same in
     let past = c.counts-test.false in
-    let all : c.counts.count ≡ c.args.self.now.last = omega (arith, within, last, past) in
+    let all : c.counts.count ≡ c.args.self.now.replay.last = omega (arith, within, past) in
     subst (λ n. NoneBetween (recording_of c.args.self.now) (place_of c.args.self.now) (n + 1) c.args.address) all h.none

@@ -1,5 +1,5 @@
 use Rattle.std.proofs.Common.{refl}
-use Rattle.kernel_contexts.specs.Context.{state_of}
+use Rattle.kernel_contexts.specs.Loose.{loose_state}
 use Rattle.sme_debugger.specs.Answers.{shown_text}
 use Rattle.sme_debugger.specs.Session.{place_of}
 use Rattle.sme_debugger.proofs.Moves.{only_failed}
@@ -7,7 +7,7 @@ use Rattle.sme_debugger.proofs.session.Session.print.Goals as goal
 
 pub returns-in_err-write_state-clause-put : goal.returns-in_err-write_state-clause-put
 returns-in_err-write_state-clause-put g c = λ _.
-    let state = state_of c.show.new.self.replay.context in
+    let state = loose_state c.show.new.self.loose in
     record {
       place = place_of c.args.self.now;
       is = record {

@@ -1,0 +1,5 @@
+pub mod OneKept
+pub mod Rows
+pub mod HandlerLists
+pub mod PageLists
+pub mod FieldsRead

@@ -1,0 +1,4 @@
+pub mod Pages
+pub mod Listed
+pub mod Fields
+pub mod Kept
