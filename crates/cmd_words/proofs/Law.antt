@@ -14,8 +14,8 @@ use Rattle.cmd_words.specs.declared.form.Operand.TheVariants.{Name}
 use Rattle.cmd_words.specs.declared.setting.Setting.{Setting}
 use Rattle.cmd_words.specs.declared.setting.Setting.TheVariants.{Vl, Svl, Slice, Budget, Threads, Cores}
 use Rattle.cmd_words.specs.declared.verb.Verb.{Verb}
-use Rattle.cmd_words.specs.declared.verb.Verb.TheVariants.{Run, Sim, Dis, Asm, Replay, Debug, AbiCheck, Vectors, Gen, Bench}
-use Rattle.cmd_words.specs.declared.verb.Verb.TheVariants.{Help, Version}
+use Rattle.cmd_words.specs.declared.verb.Verb.TheVariants.{Run, Sim, Dis, Asm, Replay, Debug, Ckpt, Resume, AbiCheck, Vectors}
+use Rattle.cmd_words.specs.declared.verb.Verb.TheVariants.{Gen, Bench, Help, Version}
 use Rattle.sm_types.proofs.Places.{none-find, find-passes}
 use Rattle.cmd_words.proofs.Faults.{fault_at-operand, get_past}
 use Rattle.cmd_words.proofs.Reading.{asked_of, operand_at, sound_first}
@@ -154,6 +154,8 @@ fixed_of Dis setting words e = refl
 fixed_of Asm setting words e = refl
 fixed_of Replay setting words e = refl
 fixed_of Debug setting words e = refl
+fixed_of Ckpt setting words e = refl
+fixed_of Resume setting words e = refl
 fixed_of AbiCheck setting words e = refl
 fixed_of Vectors Vl words e = absurd (found Vl e)
 fixed_of Vectors Svl words e = absurd (found Svl e)

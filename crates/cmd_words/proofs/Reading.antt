@@ -14,7 +14,7 @@ use Rattle.sm_types.specs.Options.{are_taken}
 use Rattle.sm_types.specs.declared.numbers.Numbers.{Numbers}
 use Rattle.cmd_words.specs.Options.{default_options, word_of, setting_in, takes, default_of, with_number, with_numbers}
 use Rattle.cmd_words.specs.Command.{asking}
-use Rattle.cmd_words.specs.Words.{Argument, NameSaid, ThreadSaid, WorkloadSaid, arguments_of}
+use Rattle.cmd_words.specs.Words.{Argument, NameSaid, ThreadSaid, WorkloadSaid, CountSaid, arguments_of}
 use Rattle.cmd_words.specs.Words.{verb_of, form_asked, command_fault, operand_fault, no_option, request_for, stands_at}
 use Rattle.cmd_words.specs.Words.{option_place, option_fault, value_fault, fault_at, usage_fault, value_below, number_given, options_given}
 use Rattle.cmd_words.specs.Words.{command_of}
@@ -22,7 +22,7 @@ use Rattle.cmd_words.specs.Given.{given_of, numbers_given, IsSoundTo, IsReadTo}
 use Rattle.cmd_words.specs.declared.command.UsageKind.{UsageKind}
 use Rattle.cmd_words.specs.declared.command.UsageKind.TheVariants.{Unknown, Repeated}
 use Rattle.cmd_words.specs.declared.form.Operand.{Operand}
-use Rattle.cmd_words.specs.declared.form.Operand.TheVariants.{Name, Thread, Workload}
+use Rattle.cmd_words.specs.declared.form.Operand.TheVariants.{Name, Thread, Workload, Count}
 use Rattle.cmd_words.specs.declared.given.Given.{Given}
 use Rattle.cmd_words.specs.declared.setting.Setting.{Setting}
 use Rattle.cmd_words.specs.declared.setting.Setting.TheVariants.{Vl, Svl, Slice, Budget, Threads, Cores}
@@ -543,6 +543,37 @@ pub bench_options : (words : List (List ℕ)) (given : Given) → IsReadTo words
     → options_given (form_of Bench) words ≡ with_number default_options Cores (unwrap_or (given_of given Cores) (default_of Cores))
 unfolding options_given
 bench_options words given h = ap (with_number default_options Cores) (given_number words (form_of Bench) given h Cores)
+
+-- the operands of `ckpt`
+pub counted : (words : List (List ℕ)) (program report : List ℕ) (thread count : ℕ) → slice_get words 1 ≡ Some program
+    → slice_get words 2 ≡ Some report → option_map decimal_value (slice_get words 3) ≡ Some thread
+    → option_map decimal_value (slice_get words 4) ≡ Some count
+    → arguments_of (Name ∷ Name ∷ Thread ∷ Count ∷ []) (drop 1 words)
+    ≡ NameSaid program ∷ NameSaid report ∷ ThreadSaid thread ∷ CountSaid count ∷ []
+counted [] program report thread count e f g h = cc
+counted (w ∷ []) program report thread count e f g h = cc
+counted (w ∷ p ∷ []) program report thread count e f g h = cc
+counted (w ∷ p ∷ r ∷ []) program report thread count e f g h = cc
+counted (w ∷ p ∷ r ∷ t ∷ []) program report thread count e f g h = cc
+counted (w ∷ p ∷ r ∷ t ∷ c ∷ words) program report thread count e f g h =
+    ap (λ n. NameSaid n ∷ NameSaid r ∷ ThreadSaid (decimal_value t) ∷ CountSaid (decimal_value c) ∷ []) (same_word p program e)
+    ∙ ap (λ n. NameSaid program ∷ NameSaid n ∷ ThreadSaid (decimal_value t) ∷ CountSaid (decimal_value c) ∷ []) (same_word r report f)
+    ∙ ap (λ n. NameSaid program ∷ NameSaid report ∷ ThreadSaid n ∷ CountSaid (decimal_value c) ∷ [])
+    (same_number (decimal_value t) thread g)
+    ∙ ap (λ n. NameSaid program ∷ NameSaid report ∷ ThreadSaid thread ∷ CountSaid n ∷ []) (same_number (decimal_value c) count h)
+
+-- the operands of `resume`
+pub resumed : (words : List (List ℕ)) (program report checkpoint : List ℕ) → slice_get words 1 ≡ Some program
+    → slice_get words 2 ≡ Some report → slice_get words 3 ≡ Some checkpoint
+    → arguments_of (Name ∷ Name ∷ Name ∷ []) (drop 1 words) ≡ NameSaid program ∷ NameSaid report ∷ NameSaid checkpoint ∷ []
+resumed [] program report checkpoint e f g = cc
+resumed (w ∷ []) program report checkpoint e f g = cc
+resumed (w ∷ p ∷ []) program report checkpoint e f g = cc
+resumed (w ∷ p ∷ r ∷ []) program report checkpoint e f g = cc
+resumed (w ∷ p ∷ r ∷ c ∷ words) program report checkpoint e f g =
+    ap (λ n. NameSaid n ∷ NameSaid r ∷ NameSaid c ∷ []) (same_word p program e)
+    ∙ ap (λ n. NameSaid program ∷ NameSaid n ∷ NameSaid c ∷ []) (same_word r report f)
+    ∙ ap (λ n. NameSaid program ∷ NameSaid report ∷ NameSaid n ∷ []) (same_word c checkpoint g)
 
 -- the options of `vectors`: the lengths and the cores alone are read
 pub vector_numbers : (words : List (List ℕ)) (given : Given) → IsReadTo words (form_of Vectors) (length words) given

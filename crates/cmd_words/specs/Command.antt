@@ -4,14 +4,15 @@ use Rattle.std.specs.String.{string_bytes}
 use Rattle.sm_types.specs.Options.{numbers_of}
 use Rattle.sm_types.specs.declared.numbers.Numbers.{Numbers}
 use Rattle.cmd_words.specs.Options.{default_options, with_number}
-use Rattle.cmd_words.specs.Words.{Argument, NameSaid, ThreadSaid, WorkloadSaid, Request, usage_fault}
+use Rattle.cmd_words.specs.Words.{Argument, NameSaid, ThreadSaid, WorkloadSaid, CountSaid, Request}
+use Rattle.cmd_words.specs.Words.{usage_fault}
 use Rattle.cmd_words.specs.declared.command.Command.{Command}
 use Rattle.cmd_words.specs.declared.command.Command.TheVariants as command
 use Rattle.cmd_words.specs.declared.command.WordsFault.{WordsFault}
 use Rattle.cmd_words.specs.declared.command.WordsFault.TheVariants as fault
 use Rattle.cmd_words.specs.declared.verb.Verb.{Verb}
-use Rattle.cmd_words.specs.declared.verb.Verb.TheVariants.{Run, Sim, Dis, Asm, Replay, Debug, AbiCheck}
-use Rattle.cmd_words.specs.declared.verb.Verb.TheVariants.{Vectors, Gen, Bench, Help, Version}
+use Rattle.cmd_words.specs.declared.verb.Verb.TheVariants.{Run, Sim, Dis, Asm, Replay, Debug, Ckpt, Resume}
+use Rattle.cmd_words.specs.declared.verb.Verb.TheVariants.{AbiCheck, Vectors, Gen, Bench, Help, Version}
 use Rattle.cmd_words.specs.declared.setting.Setting.TheVariants.{Cores}
 
 abbrev pub asking : Verb → List Argument → Numbers → Request
@@ -34,6 +35,16 @@ request_of (command.Debug program report thread script) =
     (NameSaid (string_bytes program) ∷ NameSaid (string_bytes report) ∷ ThreadSaid thread
     ∷ NameSaid (string_bytes script) ∷ [])
     default_options
+request_of (command.Ckpt program report thread count) =
+    asking Ckpt
+    (NameSaid (string_bytes program) ∷ NameSaid (string_bytes report) ∷ ThreadSaid thread ∷ CountSaid count
+    ∷ [])
+    default_options
+request_of (command.Resume program report checkpoint) =
+    asking Resume
+    (NameSaid (string_bytes program) ∷ NameSaid (string_bytes report) ∷ NameSaid (string_bytes checkpoint)
+    ∷ [])
+    default_options
 request_of (command.AbiCheck program report thread) =
     asking AbiCheck
     (NameSaid (string_bytes program) ∷ NameSaid (string_bytes report) ∷ ThreadSaid thread ∷ [])
@@ -54,6 +65,8 @@ IsInRange (command.Dis program) = Unit {0}
 IsInRange (command.Asm source) = Unit {0}
 IsInRange (command.Replay program report thread) = thread < 32
 IsInRange (command.Debug program report thread script) = thread < 32
+IsInRange (command.Ckpt program report thread count) = thread < 32
+IsInRange (command.Resume program report checkpoint) = Unit {0}
 IsInRange (command.AbiCheck program report thread) = thread < 32
 IsInRange (command.Vectors file config) = Unit {0}
 IsInRange (command.Gen number) = (1 ≤ number) × (number ≤ 20000)

@@ -1,12 +1,12 @@
 -- The forms of the commands: what stands after each of them. Source: this project's own command line.
 use Rattle.std.specs.Prelude.{ℕ, ◌+◌, List, [], ◌∷◌, length}
 use Rattle.cmd_words.specs.declared.form.Operand.{Operand}
-use Rattle.cmd_words.specs.declared.form.Operand.TheVariants.{Name, Thread, Workload}
+use Rattle.cmd_words.specs.declared.form.Operand.TheVariants.{Name, Thread, Workload, Count}
 use Rattle.cmd_words.specs.declared.setting.Setting.{Setting}
 use Rattle.cmd_words.specs.declared.setting.Setting.TheVariants.{Vl, Svl, Slice, Budget, Threads, Cores}
 use Rattle.cmd_words.specs.declared.verb.Verb.{Verb}
-use Rattle.cmd_words.specs.declared.verb.Verb.TheVariants.{Run, Sim, Dis, Asm, Replay, Debug, AbiCheck}
-use Rattle.cmd_words.specs.declared.verb.Verb.TheVariants.{Vectors, Gen, Bench, Help, Version}
+use Rattle.cmd_words.specs.declared.verb.Verb.TheVariants.{Run, Sim, Dis, Asm, Replay, Debug, Ckpt, Resume}
+use Rattle.cmd_words.specs.declared.verb.Verb.TheVariants.{AbiCheck, Vectors, Gen, Bench, Help, Version}
 
 -- what must stand after a command, in order, and the options that may follow then, each with its value as the
 -- next word
@@ -30,6 +30,8 @@ form_of Dis = record { operands = Name ∷ []; options = [] }
 form_of Asm = record { operands = Name ∷ []; options = [] }
 form_of Replay = record { operands = Name ∷ Name ∷ Thread ∷ []; options = [] }
 form_of Debug = record { operands = Name ∷ Name ∷ Thread ∷ Name ∷ []; options = [] }
+form_of Ckpt = record { operands = Name ∷ Name ∷ Thread ∷ Count ∷ []; options = [] }
+form_of Resume = record { operands = Name ∷ Name ∷ Name ∷ []; options = [] }
 form_of AbiCheck = record { operands = Name ∷ Name ∷ Thread ∷ []; options = [] }
 form_of Vectors = record { operands = Name ∷ []; options = vector_options }
 form_of Gen = record { operands = Workload ∷ []; options = [] }

@@ -15,11 +15,11 @@ use Rattle.cmd_words.specs.declared.command.UsageKind.{UsageKind}
 use Rattle.cmd_words.specs.declared.command.UsageKind.TheVariants.{Unknown, Missing, Repeated, BadNumber}
 use Rattle.cmd_words.specs.declared.command.UsageKind.TheVariants.{OutOfRange, Extra}
 use Rattle.cmd_words.specs.declared.form.Operand.{Operand}
-use Rattle.cmd_words.specs.declared.form.Operand.TheVariants.{Name, Thread, Workload}
+use Rattle.cmd_words.specs.declared.form.Operand.TheVariants.{Name, Thread, Workload, Count}
 use Rattle.cmd_words.specs.declared.setting.Setting.{Setting}
 use Rattle.cmd_words.specs.declared.verb.Verb.{Verb}
-use Rattle.cmd_words.specs.declared.verb.Verb.TheVariants.{Run, Sim, Dis, Asm, Replay, Debug, AbiCheck}
-use Rattle.cmd_words.specs.declared.verb.Verb.TheVariants.{Vectors, Gen, Bench, Help, Version}
+use Rattle.cmd_words.specs.declared.verb.Verb.TheVariants.{Run, Sim, Dis, Asm, Replay, Debug, Ckpt, Resume}
+use Rattle.cmd_words.specs.declared.verb.Verb.TheVariants.{AbiCheck, Vectors, Gen, Bench, Help, Version}
 
 -- the command of a word
 unfoldable pub verb_of : List ℕ → Option Verb
@@ -30,13 +30,15 @@ verb_of word =
     else (if bytes_eq word (codes "asm") then Some Asm
     else (if bytes_eq word (codes "replay") then Some Replay
     else (if bytes_eq word (codes "debug") then Some Debug
+    else (if bytes_eq word (codes "ckpt") then Some Ckpt
+    else (if bytes_eq word (codes "resume") then Some Resume
     else (if bytes_eq word (codes "abi-check") then Some AbiCheck
     else (if bytes_eq word (codes "vectors") then Some Vectors
     else (if bytes_eq word (codes "gen") then Some Gen
     else (if bytes_eq word (codes "bench") then Some Bench
     else (if bytes_eq word (codes "--help") then Some Help
     else (if bytes_eq word (codes "--version") then Some Version
-    else None)))))))))))
+    else None)))))))))))))
 
 -- the form of the command that the first word is
 abbrev pub form_asked : List (List ℕ) → Option Form
@@ -80,12 +82,17 @@ thread_fault = number_fault (λ number. nat_lt number 32)
 abbrev pub workload_fault : List ℕ → Option UsageKind
 workload_fault = number_fault (λ number. nat_le 1 number && nat_le number 20000)
 
+-- a word is to be a count of instructions, which has 32 bits
+abbrev pub count_fault : List ℕ → Option UsageKind
+count_fault = number_fault (λ number. nat_le number 4294967295)
+
 -- an operand is to stand
 abbrev pub operand_fault : Operand → Option (List ℕ) → Option UsageKind
 operand_fault operand None = Some Missing
 operand_fault Name (Some word) = None
 operand_fault Thread (Some word) = thread_fault word
 operand_fault Workload (Some word) = workload_fault word
+operand_fault Count (Some word) = count_fault word
 
 -- what a word is that is none of the options: one too many, where the command takes none
 abbrev pub no_option : List Setting → UsageKind
@@ -157,16 +164,19 @@ number_given form words setting =
 unfoldable pub options_given : Form → List (List ℕ) → Numbers
 options_given form words = with_numbers default_options form.options (number_given form words)
 
--- what an operand says: the name of a file, or the number of a guest thread or of a workload
+-- what an operand says: the name of a file, the number of a guest thread or of a workload, or a count of
+-- instructions
 pub data Argument : Type 0 where
   NameSaid : List ℕ → Argument
   ThreadSaid : ℕ → Argument
   WorkloadSaid : ℕ → Argument
+  CountSaid : ℕ → Argument
 
 abbrev pub argument_of : Operand → List ℕ → Argument
 argument_of Name word = NameSaid word
 argument_of Thread word = ThreadSaid (decimal_value word)
 argument_of Workload word = WorkloadSaid (decimal_value word)
+argument_of Count word = CountSaid (decimal_value word)
 
 -- what operands say, each by the word at its place
 abbrev pub arguments_of : List Operand → List (List ℕ) → List Argument

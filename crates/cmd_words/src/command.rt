@@ -38,6 +38,21 @@ pub enum Command {
         thread: u32,
         script: String,
     },
+    /// Writes the checkpoint of one thread of a report, at a count of its instructions, on the program file
+    /// of that name.
+    Ckpt {
+        program: String,
+        report: String,
+        thread: u32,
+        count: u32,
+    },
+    /// Runs the thread of the checkpoint file of that name on from there, by its journal in the report of
+    /// that name, on the program file of that name.
+    Resume {
+        program: String,
+        report: String,
+        checkpoint: String,
+    },
     /// Checks the marked calls of one thread of a report, on the program file of that name.
     AbiCheck {
         program: String,

@@ -15,6 +15,8 @@ pub enum Operand {
     Thread,
     /// The number of a workload.
     Workload,
+    /// A count of instructions.
+    Count,
 }
 
 /// What stands after a command: its operands, and then options, each with its value as the next word.
@@ -62,6 +64,19 @@ pub fn form_of(verb: Verb) -> Form
         },
         Verb::Debug => Form {
             operands: &[Operand::Name, Operand::Name, Operand::Thread, Operand::Name],
+            options: &[],
+        },
+        Verb::Ckpt => Form {
+            operands: &[
+                Operand::Name,
+                Operand::Name,
+                Operand::Thread,
+                Operand::Count,
+            ],
+            options: &[],
+        },
+        Verb::Resume => Form {
+            operands: &[Operand::Name, Operand::Name, Operand::Name],
             options: &[],
         },
         Verb::Vectors => Form {

@@ -11,6 +11,8 @@ pub enum Verb {
     Asm,
     Replay,
     Debug,
+    Ckpt,
+    Resume,
     AbiCheck,
     Vectors,
     Gen,
@@ -36,6 +38,10 @@ pub fn verb_of(word: &str) -> Option<Verb>
         Some(Verb::Replay)
     } else if word == "debug" {
         Some(Verb::Debug)
+    } else if word == "ckpt" {
+        Some(Verb::Ckpt)
+    } else if word == "resume" {
+        Some(Verb::Resume)
     } else if word == "abi-check" {
         Some(Verb::AbiCheck)
     } else if word == "vectors" {

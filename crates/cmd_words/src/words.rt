@@ -58,6 +58,17 @@ fn workload_fault(word: &str) -> Option<UsageKind>
     }
 }
 
+/// What is wrong with a word that is to be a count of instructions.
+fn count_fault(word: &str) -> Option<UsageKind>
+    ensures { result ≡ spec.count_fault word.now }
+{
+    match number_of(word) {
+        Some(number) if number <= 4_294_967_295 => None,
+        Some(_) => Some(UsageKind::OutOfRange),
+        None => Some(UsageKind::BadNumber),
+    }
+}
+
 /// What is wrong where an operand is to stand.
 fn operand_fault(operand: Operand, word: Option<&str>) -> Option<UsageKind>
     ensures { result ≡ spec.operand_fault operand (option_map (λ word. word.now) word.entry) }
@@ -67,6 +78,7 @@ fn operand_fault(operand: Operand, word: Option<&str>) -> Option<UsageKind>
         (Operand::Name, Some(_)) => None,
         (Operand::Thread, Some(word)) => thread_fault(word),
         (Operand::Workload, Some(word)) => workload_fault(word),
+        (Operand::Count, Some(word)) => count_fault(word),
     }
 }
 
@@ -222,6 +234,19 @@ fn workload_at(words: &[String], place: usize) -> u32
     }
 }
 
+/// The count of instructions at a place.
+fn count_at(words: &[String], place: usize) -> u32
+    requires stands { place < length words.now }
+    requires number { ForSome (slice_get (map string_bytes words.now) place)
+        (λ word. spec.count_fault word ≡ None) }
+    ensures { option_map decimal_value (slice_get (map string_bytes words.now) place) ≡ Some result }
+{
+    match number_of(words[place].as_str()) {
+        Some(number) => number as u32,
+        None => unreachable!(),
+    }
+}
+
 /// The command of words without a fault.
 fn make_command(
     alloc: Global,
@@ -262,6 +287,17 @@ fn make_command(
             report: name_at(alloc, words, 2)?,
             thread: thread_at(words, 3),
             script: name_at(alloc, words, 4)?,
+        }),
+        Verb::Ckpt => Ok(Command::Ckpt {
+            program: name_at(alloc, words, 1)?,
+            report: name_at(alloc, words, 2)?,
+            thread: thread_at(words, 3),
+            count: count_at(words, 4),
+        }),
+        Verb::Resume => Ok(Command::Resume {
+            program: name_at(alloc, words, 1)?,
+            report: name_at(alloc, words, 2)?,
+            checkpoint: name_at(alloc, words, 3)?,
         }),
         Verb::AbiCheck => Ok(Command::AbiCheck {
             program: name_at(alloc, words, 1)?,

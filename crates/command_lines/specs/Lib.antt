@@ -4,6 +4,7 @@ pub mod FaultLines
 pub mod SourceLines
 pub mod ReportLines
 pub mod PlanLines
+pub mod CheckpointLines
 pub mod LawLines
 pub mod VectorsLines
 pub mod Foreign

@@ -14,7 +14,8 @@ use Rattle.command_lines.specs.declared.help.TheConstants.{HELP, VERSION}
 use Rattle.command_lines.specs.declared.status.Status.{Status}
 use Rattle.command_lines.specs.declared.status.Status.TheVariants.{Done, Usage, Absent, ReadFault, WriteFault}
 use Rattle.command_lines.specs.declared.status.Status.TheVariants.{BadFile, BadSource, OutOfMemory, BadReport}
-use Rattle.command_lines.specs.declared.status.Status.TheVariants.{Differs, BadPlan, Unlawful, BadVectors}
+use Rattle.command_lines.specs.declared.status.Status.TheVariants.{Differs, BadPlan, BadCheckpoint, Unlawful}
+use Rattle.command_lines.specs.declared.status.Status.TheVariants.{BadVectors}
 use Rattle.command_lines.specs.Status.{code_of}
 
 -- what is wrong with a word
@@ -93,6 +94,7 @@ status_words OutOfMemory = codes "there was no memory\n"
 status_words BadReport = codes "bad report: line "
 status_words Differs = codes "differs: "
 status_words BadPlan = codes "bad plan: line "
+status_words BadCheckpoint = codes "bad checkpoint: "
 status_words Unlawful = codes "unlawful: count "
 status_words BadVectors = codes "bad vectors: "
 

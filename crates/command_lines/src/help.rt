@@ -19,6 +19,10 @@ commands:
                 runs thread THREAD of the report REPORT of PROGRAM alone and writes its block
   debug PROGRAM REPORT THREAD SCRIPT
                 runs that thread alone, and writes what the commands of SCRIPT show of it
+  ckpt PROGRAM REPORT THREAD COUNT
+                runs that thread alone to COUNT instructions and writes its checkpoint
+  resume PROGRAM REPORT CKPT
+                runs the thread of the checkpoint CKPT on from there and writes its block
   abi-check PROGRAM REPORT THREAD
                 runs that thread alone and checks the callee of each marked call
   vectors FILE  runs the single instructions of FILE, each on the state of its line
@@ -48,6 +52,8 @@ statuses:
   9   bad report: line L: KIND, where the file is no report of PROGRAM with that thread
   10   differs: where the thread and its report part: a line of both, or KIND VALUES
   11   bad plan: line L: KIND, where the file is no plan, or no script
+  12   bad checkpoint: toolong, or field K, or count C, where the file is no checkpoint of
+       REPORT, or COUNT is not below C
   13   unlawful: count C pc H KIND, where a marked call is not lawful
   14   bad vectors: toolong, or line L, where the file is no file of vectors
 

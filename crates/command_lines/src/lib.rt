@@ -1,9 +1,10 @@
 //! The lines and the texts of the command: the line of the fault for which words, a program's file, a source,
-//! a report, a plan or a file of vectors is refused, the lines that say in which line a report and a replay
-//! differ, those of a check of marked calls, the texts of help and of the version, and the status with its
-//! number. `refuse_foreign_word` answers words of which one is no text.
+//! a report, a plan, a checkpoint or a file of vectors is refused, the lines that say in which line a report
+//! and a replay differ, those of a check of marked calls, the texts of help and of the version, and the
+//! status with its number. `refuse_foreign_word` answers words of which one is no text.
 #![tactic(auto)]
 
+mod checkpoint_line;
 mod difference_line;
 mod fault_line;
 mod foreign;
@@ -18,6 +19,7 @@ mod status;
 mod usage_line;
 mod vectors_line;
 
+pub use checkpoint_line::{CheckpointFault, write_checkpoint_fault};
 pub use difference_line::write_difference_lines;
 pub use fault_line::write_fault;
 pub use foreign::refuse_foreign_word;

@@ -27,6 +27,8 @@ pub enum Status {
     Differs,
     /// The file is no plan, or no script.
     BadPlan,
+    /// The file is no checkpoint of the report, or there is none at that count.
+    BadCheckpoint,
     /// A marked call of the thread is at fault.
     Unlawful,
     /// The file is no file of vectors.
@@ -50,6 +52,7 @@ impl Status {
             Status::BadReport => 9,
             Status::Differs => 10,
             Status::BadPlan => 11,
+            Status::BadCheckpoint => 12,
             Status::Unlawful => 13,
             Status::BadVectors => 14,
         }

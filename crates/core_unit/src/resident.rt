@@ -14,13 +14,3 @@ pub struct Resident<P: Port> {
     pub ghost number: { (P.tells ticket).number ≡ Some (thread_of context) },
     pub ghost journal: { (P.tells ticket).events ≡ journal_of context },
 }
-
-/// Whether the thread of that number owns a bank.
-pub fn is_owner(bank: &Bank, thread: u32) -> bool
-    ensures { result ≡ owns bank.now thread }
-{
-    match bank.owner() {
-        Some(owner) => owner == thread,
-        None => false,
-    }
-}

@@ -52,7 +52,7 @@ pub struct Context {
 
 /// Whether the thread of that number owns a bank.
 #[inline]
-fn is_owned(bank: &Bank, thread: u32) -> bool
+pub fn is_owned(bank: &Bank, thread: u32) -> bool
     ensures { result ≡ owns bank.now thread }
 {
     match bank.owner() {

@@ -15,7 +15,7 @@ mod loose_bank;
 mod loose_state;
 mod whole;
 
-pub use context::{Context, Finished, Turn};
+pub use context::{Context, Finished, Turn, is_owned};
 pub use laws::{
     contexts_are_plain, contexts_are_runs, handlers_bring_back, masks_go_by_the_version,
 };

@@ -4,6 +4,8 @@ pub mod Opened
 pub mod Ends
 pub mod Replays
 pub mod Debugs
+pub mod Checkpoints
+pub mod Resumes
 pub mod Checks
 pub mod Benches
 pub mod Words

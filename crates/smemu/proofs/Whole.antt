@@ -4,6 +4,9 @@ use Rattle.std.proofs.lemmas.Bool.Decides.{nat_tests}
 use Rattle.std.proofs.lemmas.Grind.{common_steps}
 use Rattle.std.specs.Prelude.{IfSome, option_map, nat_lt}
 use Rattle.asm_core.specs.Faults.{asm_fault}
+use Rattle.ckpt_fields.specs.Rows.{checkpoint_fault}
+use Rattle.ckpt_fields.specs.declared.fault.CkptFault.{CkptFault}
+use Rattle.ckpt_fields.specs.declared.fault.CkptFault.TheVariants as ckpt
 use Rattle.asm_core.specs.declared.fault.AsmFault.TheVariants as asm
 use Rattle.elf_headers.specs.declared.fault.LoadFault.TheVariants as load
 use Rattle.elf_loader.proofs.Checks.{long_refused}
@@ -17,14 +20,14 @@ use Rattle.plan_reader.specs.Plan.{plan_in}
 use Rattle.plan_reader.specs.Plan as plan
 use Rattle.line_reader.specs.declared.text_fault.TextKind.TheVariants as text_kind
 use Rattle.report_reader.specs.Reading.{Fault}
-use Rattle.report_reader.specs.Report.{report_in}
+use Rattle.report_reader.specs.Report.{Report, report_in}
 use Rattle.report_reader.specs.declared.fault.ReportKind.TheVariants as part
 use Rattle.script_reader.specs.Script.{script_in}
 use Rattle.sm_types.specs.declared.length.VecLen.{VecLen}
 use Rattle.vector_runner.specs.Grammar as grammar
 use Rattle.vector_runner.specs.Grammar.{vectors_in}
 use Rattle.smemu.specs.Rejections.{Judge, fault_in, fault_told, plan_judge, program_judge, report_judge, script_judge, source_judge}
-use Rattle.smemu.specs.Rejections.{vectors_judge}
+use Rattle.smemu.specs.Rejections.{checkpoint_judge, field_told, vectors_judge}
 use Rattle.smemu.specs.declared.rejection.Rejection.{Rejection}
 use Rattle.smemu.specs.declared.rejection.Rejection.TheVariants as rejection
 
@@ -168,6 +171,16 @@ pub script_bounded : IsBounded script_judge 67108864
 script_bounded = record {
   too_long = rejection.Plan 0 text_kind.TooLong;
   long = λ file h. ap (option_map (λ (fault : plan.Fault). rejection.Plan fault.line fault.kind)) (long_script file h);
+}
+
+long_checkpoint : (said : Report) (file : List ℕ) → 67108864 < length file → checkpoint_fault said file ≡ Some ckpt.TooLong
+unfolding checkpoint_fault
+long_checkpoint said file h = rw (is_long file h) refl
+
+pub checkpoint_bounded : (said : Report) → IsBounded (checkpoint_judge (Ok said)) 67108864
+checkpoint_bounded said = record {
+  too_long = rejection.Checkpoint (field_told ckpt.TooLong);
+  long = λ file h. ap (option_map (λ (fault : CkptFault). rejection.Checkpoint (field_told fault))) (long_checkpoint said file h);
 }
 
 long_vectors : (vl svl : VecLen) (file : List ℕ) → 67108864 < length file → fault_in (vectors_in vl svl file) ≡ Some grammar.TooLong

@@ -1,6 +1,7 @@
 -- What the command writes for a request: the report of a run, the text of a plan, a listing, a program's
--- file, the block of a thread that is replayed, what a script's commands show of a thread, what is told of
--- its marked calls, the answers to vectors, or a text of its own; and what else may become of it.
+-- file, the block of a thread that is replayed or resumed, what a script's commands show of a thread, its
+-- checkpoint, what is told of its marked calls, the answers to vectors, or a text of its own; and what else
+-- may become of it.
 use Rattle.std.specs.Prelude.{◌≡◌, ℕ, [], ◌∷◌, ◌++◌, List, Some, None, IfSome}
 use Rattle.sha2.specs.Sha256.{sha256}
 use Rattle.sm_types.specs.declared.config.Config.{Config}
@@ -9,10 +10,10 @@ use Rattle.sm_types.specs.declared.shared_words.Words.{Words}
 use Rattle.edge_io.specs.Files.{Told}
 use Rattle.sm_types.specs.Options.{numbers_of}
 use Rattle.sm_types.specs.declared.numbers.Numbers.{Numbers}
-use Rattle.cmd_words.specs.Words.{Argument, ThreadSaid, WorkloadSaid, Request}
+use Rattle.cmd_words.specs.Words.{Argument, ThreadSaid, WorkloadSaid, CountSaid, Request}
 use Rattle.cmd_words.specs.declared.verb.Verb.{Verb}
-use Rattle.cmd_words.specs.declared.verb.Verb.TheVariants.{Run, Sim, Dis, Asm, Replay, Debug, AbiCheck}
-use Rattle.cmd_words.specs.declared.verb.Verb.TheVariants.{Vectors, Gen, Bench, Help, Version}
+use Rattle.cmd_words.specs.declared.verb.Verb.TheVariants.{Run, Sim, Dis, Asm, Replay, Debug, Ckpt, Resume}
+use Rattle.cmd_words.specs.declared.verb.Verb.TheVariants.{AbiCheck, Vectors, Gen, Bench, Help, Version}
 use Rattle.asm_core.specs.Assembly.{Assembles}
 use Rattle.code_listing.specs.Listing.{listing_text}
 use Rattle.paged_memory.specs.Image.{Program}
@@ -22,14 +23,16 @@ use Rattle.report_text.specs.Report.{ThreadEnd, report_text}
 use Rattle.command_lines.specs.Texts.{help_text, version_text}
 use Rattle.command_lines.specs.declared.status.Status.{Status}
 use Rattle.command_lines.specs.declared.status.Status.TheVariants.{Done, OutOfMemory, BadReport, Differs}
-use Rattle.command_lines.specs.declared.status.Status.TheVariants.{Unlawful}
+use Rattle.command_lines.specs.declared.status.Status.TheVariants.{BadCheckpoint, Unlawful}
 use Rattle.smemu.specs.Rejections.{judge_of}
 use Rattle.workload.specs.Source.{source_of}
 use Rattle.smemu.specs.Bench.{IsBench}
+use Rattle.smemu.specs.Checkpoints.{IsCheckpointOf, IsLate, IsShort}
 use Rattle.smemu.specs.Checks.{IsLawfulOf, IsUnlawfulOf}
 use Rattle.smemu.specs.Debug.{IsDebugOf, IsDebugFrontOf}
 use Rattle.smemu.specs.Replay.{IsReplayOf, IsParted, MismatchesSo, DiffersSo}
 use Rattle.smemu.specs.Requests.{Named, files_named}
+use Rattle.smemu.specs.Resume.{IsResumeOf, IsOtherProgram, RestDiffers}
 use Rattle.smemu.specs.Runs.{IsWholeRun}
 use Rattle.smemu.specs.Vectors.{IsAnswersOf}
 use Rattle.smemu.specs.Worlds.{IsSimulation}
@@ -89,6 +92,17 @@ of_thread tells (program ∷ report ∷ ThreadSaid thread ∷ []) options (file 
     tells file bytes thread text
 of_thread tells operands options files text = ⊥
 
+-- of a program, a report of it, a thread of that, and a count
+abbrev pub of_count : (List ℕ → List ℕ → ℕ → ℕ → List ℕ → Type 0) → Outcome
+of_count tells (program ∷ report ∷ ThreadSaid thread ∷ CountSaid count ∷ []) options (file ∷ bytes ∷ [])
+    text = tells file bytes thread count text
+of_count tells operands options files text = ⊥
+
+-- of a program, a report of it, and a checkpoint of a thread of that
+abbrev pub of_checkpoint : (List ℕ → List ℕ → List ℕ → List ℕ → Type 0) → Outcome
+of_checkpoint tells operands options (file ∷ bytes ∷ checkpoint ∷ []) text = tells file bytes checkpoint text
+of_checkpoint tells operands options files text = ⊥
+
 -- of a program, a report of it, a thread of that, and a script
 abbrev pub of_script : (List ℕ → List ℕ → ℕ → List ℕ → List ℕ → Type 0) → Outcome
 of_script tells (program ∷ report ∷ ThreadSaid thread ∷ script ∷ []) options (file ∷ bytes ∷ lines ∷ [])
@@ -123,6 +137,13 @@ outcomes_of Debug OutOfMemory = Tells (of_script IsDebugFrontOf)
 outcomes_of Debug BadReport =
     Tells (of_script (λ file report thread script. MismatchesSo file report thread))
 outcomes_of Debug Differs = Tells (of_script (λ file report thread script. IsParted file report thread))
+outcomes_of Ckpt Done = Tells (of_count IsCheckpointOf)
+outcomes_of Ckpt BadReport = Tells (of_count (λ file report thread count. MismatchesSo file report thread))
+outcomes_of Ckpt BadCheckpoint = Tells (of_count IsLate)
+outcomes_of Ckpt Differs = Tells (of_count IsShort)
+outcomes_of Resume Done = Tells (of_checkpoint IsResumeOf)
+outcomes_of Resume BadReport = Tells (of_checkpoint IsOtherProgram)
+outcomes_of Resume Differs = Tells (of_checkpoint RestDiffers)
 outcomes_of AbiCheck Done = Tells (of_thread IsLawfulOf)
 outcomes_of AbiCheck BadReport = Tells (of_thread MismatchesSo)
 outcomes_of AbiCheck Differs = Tells (of_thread IsParted)

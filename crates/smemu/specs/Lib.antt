@@ -4,6 +4,8 @@ pub mod Threads
 pub mod DifferLines
 pub mod Replay
 pub mod Debug
+pub mod Checkpoints
+pub mod Resume
 pub mod Checks
 pub mod Compare
 pub mod Excerpt

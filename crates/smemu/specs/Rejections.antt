@@ -1,13 +1,17 @@
 -- What a file is to be, how it is judged, why it is not accepted as that, and how that is told.
-use Rattle.std.specs.Prelude.{ℕ, List, Option, Some, None, option_map, Result, Ok, Err}
+use Rattle.std.specs.Prelude.{ℕ, List, [], ◌∷◌, Option, Some, None, option_map, Result, Ok, Err}
 use Rattle.cmd_words.specs.Words.{Request}
 use Rattle.asm_core.specs.Faults.{asm_fault}
 use Rattle.elf_loader.specs.Loading.{load_fault}
 use Rattle.plan_reader.specs.Plan.{plan_in}
 use Rattle.plan_reader.specs.Plan as plan
 use Rattle.report_reader.specs.Reading.{Fault}
-use Rattle.report_reader.specs.Report.{report_in}
+use Rattle.report_reader.specs.Report.{Report, report_in}
 use Rattle.script_reader.specs.Script.{script_in}
+use Rattle.ckpt_fields.specs.Rows.{checkpoint_fault}
+use Rattle.ckpt_fields.specs.declared.fault.CkptFault.{CkptFault}
+use Rattle.ckpt_fields.specs.declared.fault.CkptFault.TheVariants as ckpt
+use Rattle.command_lines.specs.CheckpointLines.{checkpoint_line}
 use Rattle.command_lines.specs.FaultLines.{fault_line}
 use Rattle.command_lines.specs.PlanLines.{plan_line}
 use Rattle.command_lines.specs.ReportLines.{report_line}
@@ -15,7 +19,9 @@ use Rattle.command_lines.specs.SourceLines.{source_line}
 use Rattle.command_lines.specs.VectorsLines.{vectors_line}
 use Rattle.command_lines.specs.declared.status.Status.{Status}
 use Rattle.command_lines.specs.declared.status.Status.TheVariants.{BadFile, BadSource, BadReport, BadPlan}
-use Rattle.command_lines.specs.declared.status.Status.TheVariants.{BadVectors}
+use Rattle.command_lines.specs.declared.status.Status.TheVariants.{BadCheckpoint, BadVectors}
+use Rattle.command_lines.specs.declared.checkpoint_line.CheckpointFault.{CheckpointFault}
+use Rattle.command_lines.specs.declared.checkpoint_line.CheckpointFault.TheVariants as checkpoints
 use Rattle.command_lines.specs.declared.vectors_line.VectorsFault.{VectorsFault}
 use Rattle.command_lines.specs.declared.vectors_line.VectorsFault.TheVariants as vectors
 use Rattle.sm_types.specs.declared.length.VecLen.{VecLen}
@@ -37,6 +43,8 @@ pub data Kind : Type 0 where
   PlanFile : Kind
   -- a script of the debugger, which is in its format
   ScriptFile : Kind
+  -- a checkpoint, which is one for the report before it
+  CheckpointFile : Kind
   -- a file of vectors, which is in its format for the lengths of the options
   VectorsFile : Kind
 
@@ -47,6 +55,7 @@ limit_of SourceFile = 67108865
 limit_of ReportFile = 1073741825
 limit_of PlanFile = 67108865
 limit_of ScriptFile = 67108865
+limit_of CheckpointFile = 67108865
 limit_of VectorsFile = 67108865
 
 -- the fault of a reading
@@ -81,6 +90,23 @@ abbrev pub script_judge : Judge
 script_judge file =
     option_map (λ (fault : plan.Fault). rejection.Plan fault.line fault.kind) (fault_in (script_in file))
 
+-- the fault of a checkpoint, as it is told; want of memory is none of a file
+abbrev pub field_told : CkptFault → CheckpointFault
+field_told ckpt.TooLong = checkpoints.TooLong
+field_told (ckpt.Field offset) = checkpoints.Field offset
+field_told ckpt.Memory = checkpoints.TooLong
+
+-- as a checkpoint for what a report says; one that says nothing has none
+abbrev pub checkpoint_judge : Result Report Fault → Judge
+checkpoint_judge (Ok said) file =
+    option_map (λ (fault : CkptFault). rejection.Checkpoint (field_told fault)) (checkpoint_fault said file)
+checkpoint_judge (Err fault) file = Some (rejection.Report fault.line fault.kind)
+
+-- after these files, of which the last is the report
+abbrev pub judge_after : List (List ℕ) → Judge
+judge_after (program ∷ report ∷ []) = checkpoint_judge (report_in report)
+judge_after files = λ file. None
+
 -- the fault of a file of vectors, as it is told
 abbrev pub fault_told : grammar.Fault → VectorsFault
 fault_told grammar.TooLong = vectors.TooLong
@@ -99,6 +125,7 @@ judge_of request before SourceFile = source_judge
 judge_of request before ReportFile = report_judge
 judge_of request before PlanFile = plan_judge
 judge_of request before ScriptFile = script_judge
+judge_of request before CheckpointFile = judge_after before
 judge_of request before VectorsFile =
     vectors_judge (length_said request.options.vl) (length_said request.options.svl)
 
@@ -108,6 +135,7 @@ rejection_status (rejection.Program fault) = BadFile
 rejection_status (rejection.Source fault) = BadSource
 rejection_status (rejection.Report line kind) = BadReport
 rejection_status (rejection.Plan line kind) = BadPlan
+rejection_status (rejection.Checkpoint fault) = BadCheckpoint
 rejection_status (rejection.Vectors fault) = BadVectors
 
 -- its line
@@ -116,4 +144,5 @@ rejection_line (rejection.Program fault) = fault_line fault
 rejection_line (rejection.Source fault) = source_line fault
 rejection_line (rejection.Report line kind) = report_line (record { line = line; kind = kind })
 rejection_line (rejection.Plan line kind) = plan_line (record { line = line; kind = kind })
+rejection_line (rejection.Checkpoint fault) = checkpoint_line fault
 rejection_line (rejection.Vectors fault) = vectors_line fault

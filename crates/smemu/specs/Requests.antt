@@ -2,14 +2,15 @@
 use Rattle.std.specs.Prelude.{◌≡◌, ℕ, List, [], ◌∷◌, ◌++◌, Option, Some, None, is_none, slice_get}
 use Rattle.std.specs.Prelude.{if◌then◌else◌}
 use Rattle.edge_io.specs.Files.{Told}
-use Rattle.cmd_words.specs.Words.{Argument, NameSaid, ThreadSaid, WorkloadSaid, Request, command_of}
+use Rattle.cmd_words.specs.Words.{Argument, NameSaid, ThreadSaid, WorkloadSaid, CountSaid, Request}
+use Rattle.cmd_words.specs.Words.{command_of}
 use Rattle.cmd_words.specs.declared.verb.Verb.{Verb}
-use Rattle.cmd_words.specs.declared.verb.Verb.TheVariants.{Run, Sim, Dis, Asm, Replay, Debug, AbiCheck}
-use Rattle.cmd_words.specs.declared.verb.Verb.TheVariants.{Vectors, Gen, Bench, Help, Version}
+use Rattle.cmd_words.specs.declared.verb.Verb.TheVariants.{Run, Sim, Dis, Asm, Replay, Debug, Ckpt, Resume}
+use Rattle.cmd_words.specs.declared.verb.Verb.TheVariants.{AbiCheck, Vectors, Gen, Bench, Help, Version}
 use Rattle.command_lines.specs.declared.status.Status.{Status}
 use Rattle.command_lines.specs.declared.status.Status.TheVariants.{Done, Usage, Absent}
 use Rattle.smemu.specs.Rejections.{Kind, ProgramFile, SourceFile, ReportFile, PlanFile, ScriptFile}
-use Rattle.smemu.specs.Rejections.{VectorsFile}
+use Rattle.smemu.specs.Rejections.{CheckpointFile, VectorsFile}
 use Rattle.smemu.specs.Rejections.{Judge, judge_of, rejection_status}
 use Rattle.smemu.specs.declared.rejection.Rejection.{Rejection}
 
@@ -26,6 +27,8 @@ kinds_of Dis = ProgramFile ∷ []
 kinds_of Asm = SourceFile ∷ []
 kinds_of Replay = ProgramFile ∷ ReportFile ∷ []
 kinds_of Debug = ProgramFile ∷ ReportFile ∷ ScriptFile ∷ []
+kinds_of Ckpt = ProgramFile ∷ ReportFile ∷ []
+kinds_of Resume = ProgramFile ∷ ReportFile ∷ CheckpointFile ∷ []
 kinds_of AbiCheck = ProgramFile ∷ ReportFile ∷ []
 kinds_of Vectors = VectorsFile ∷ []
 kinds_of Gen = []
@@ -38,6 +41,7 @@ abbrev pub named_by : List Argument → List Kind → List Named
 named_by [] kinds = []
 named_by (ThreadSaid thread ∷ operands) kinds = named_by operands kinds
 named_by (WorkloadSaid number ∷ operands) kinds = named_by operands kinds
+named_by (CountSaid count ∷ operands) kinds = named_by operands kinds
 named_by (NameSaid name ∷ operands) [] = []
 named_by (NameSaid name ∷ operands) (kind ∷ kinds) =
     record { name = name; kind = kind } ∷ named_by operands kinds

@@ -1,6 +1,6 @@
 -- What the answers and refusals of the code stand for, on the way from the words to the writing.
-use Rattle.std.specs.Prelude.{◌≡◌, ◌⊎◌, ℕ, ◌+◌, [], List, Some, None, IfSome, IsSome, IsTrue, Result, Ok, Err}
-use Rattle.std.specs.Prelude.{option_map, take}
+use Rattle.std.specs.Prelude.{◌≡◌, ◌⊎◌, ℕ, ◌+◌, ◌<◌, ◌≤◌, [], List, Some, None, IfSome, IsSome, IsTrue, Result}
+use Rattle.std.specs.Prelude.{Ok, Err, option_map, drop, length, slice_get, take}
 use Rattle.std.specs.List.{flat_map}
 use Rattle.std.specs.String.{string_bytes}
 use Rattle.edge_io.specs.Cause.{Rose}
@@ -10,7 +10,11 @@ use Rattle.edge_io.specs.declared.sink.PutFault.{PutFault}
 use Rattle.edge_io.specs.declared.sink.PutFault.TheVariants.{Failed}
 use Rattle.cmd_words.specs.Words.{Request}
 use Rattle.code_listing.specs.Listing.{listing_text}
-use Rattle.lone_runner.specs.Parting.{EndsAt, IsParting}
+use Rattle.kernel_contexts.specs.Loose.{loose_config, loose_events, loose_state, loose_stop, loose_thread}
+use Rattle.kernel_contexts.specs.declared.loose.Loose.{Loose}
+use Rattle.lone_runner.specs.Parting.{EndsAt, IsParting, IsPartingBefore}
+use Rattle.lone_runner.specs.Rest.{IsPartingFrom}
+use Rattle.lone_runner.specs.declared.fault.AloneFault.{AloneFault}
 use Rattle.paged_memory.specs.Image.{Program}
 use Rattle.report_reader.specs.Block.{Block}
 use Rattle.line_reader.specs.Difference.{first_difference}
@@ -21,9 +25,16 @@ use Rattle.script_reader.specs.Script.{script_in}
 use Rattle.sme_debugger.specs.Session.{recording_of, place_of}
 use Rattle.sha2.specs.Sha256.{sha256}
 use Rattle.sm_types.specs.declared.config.Config.{Config}
+use Rattle.sm_types.specs.declared.shared_op.Event.{Event}
+use Rattle.sm_types.specs.declared.stop.Stop.{Stop}
+use Rattle.sm_types.specs.Options.{version_of}
+use Rattle.ckpt_file.specs.Checkpoint.{ReadsCheckpoint}
+use Rattle.report_text.specs.Block.{block_text}
 use Rattle.report_text.specs.Ends.{ends_of}
 use Rattle.report_text.specs.Report.{report_text}
 use Rattle.sim_text.specs.Sim.{sim_text}
+use Rattle.command_lines.specs.CheckpointLines.{checkpoint_line}
+use Rattle.command_lines.specs.declared.checkpoint_line.CheckpointFault.TheVariants.{Count}
 use Rattle.command_lines.specs.LawLines.{lawful_line, unlawful_line}
 use Rattle.command_lines.specs.ReportLines.{report_line, difference_lines}
 use Rattle.command_lines.specs.Texts.{usage_line, help_text, version_text}
@@ -32,6 +43,7 @@ use Rattle.command_lines.specs.declared.status.Status.TheVariants as status
 use Rattle.workload.specs.Source.{source_of}
 use Rattle.smemu.specs.Answers.{IsFile, outcome}
 use Rattle.smemu.specs.Bench.{bench_line}
+use Rattle.smemu.specs.Checkpoints.{FallsShort, IsCheckpointOf, IsLate, IsShort}
 use Rattle.smemu.specs.Checks.{kind_word, IsLawfulOf, IsUnlawfulOf}
 use Rattle.smemu.specs.DifferLines.{parting_line}
 use Rattle.smemu.specs.Excerpt.{excerpt_text}
@@ -40,6 +52,7 @@ use Rattle.smemu.specs.Rejections.{Judge, rejection_status, rejection_line}
 use Rattle.smemu.specs.Debug.{AllAnswers, FrontAnswers, recorded}
 use Rattle.smemu.specs.Replay.{mismatch, IsBlockIn, IsReplayOf, IsMismatched, IsParted, DiffersSo}
 use Rattle.smemu.specs.Requests.{reached_of}
+use Rattle.smemu.specs.Resume.{IsOtherProgram, IsResumeOf, RestDiffers}
 use Rattle.smemu.specs.Vectors.{with_line_feed}
 use Rattle.smemu.specs.declared.answer.Answer.{Answer}
 use Rattle.smemu.specs.declared.answer.Answer.TheVariants as answer
@@ -78,6 +91,7 @@ answer_text (texts.Simulation simulation) = simulation_text simulation
 answer_text (texts.Listing image) = listing_text image.code
 answer_text (texts.Program bytes) = bytes.items
 answer_text (texts.Block block) = excerpt_text block
+answer_text (texts.Checkpoint bytes) = bytes.items
 answer_text (texts.Lawful calls unreturned) = lawful_line calls unreturned
 answer_text (texts.Lines lines) = flat_map with_line_feed lines.items
 answer_text (texts.Source number) = source_of number
@@ -94,11 +108,13 @@ difference_text (difference.Lines line report replay) = difference_lines line re
 abbrev pub ending_text : Ending → List ℕ
 ending_text (ending.Mismatch line kind) = report_line (record { line = line; kind = kind })
 ending_text (ending.Differs it) = difference_text it
+ending_text (ending.Late end) = checkpoint_line (Count end)
 ending_text (ending.Unlawful count pc kind) = unlawful_line count pc (kind_word kind)
 
 abbrev pub ending_status : Ending → Status
 ending_status (ending.Mismatch line kind) = status.BadReport
 ending_status (ending.Differs it) = status.Differs
+ending_status (ending.Late end) = status.BadCheckpoint
 ending_status (ending.Unlawful count pc kind) = status.Unlawful
 
 -- the line and the status of a file that was not fetched
@@ -267,6 +283,82 @@ EndsDebug file report thread script (Err (refusal.Ended (ending.Differs it))) =
     IsParted file report thread (difference_text it)
 EndsDebug file report thread script (Err refusal.Memory) = Unit {0}
 EndsDebug file report thread script (Err other) = ⊥
+
+-- ---- checkpoints
+
+-- the run of a block's thread parts so before a count
+abbrev pub IsBeforeRefusal : Program → Config → ℕ → Block → ℕ → Refusal → Type 0
+IsBeforeRefusal program config thread block count (refusal.Ended (ending.Differs (difference.Parts fault))) =
+    IsPartingBefore program config thread block.journal count fault
+IsBeforeRefusal program config thread block count refusal.Memory = Unit {0}
+IsBeforeRefusal program config thread block count other = ⊥
+
+-- the thread of a block does not go on at a count
+abbrev pub IsShortRefusal : Program → Config → ℕ → Block → ℕ → Refusal → Type 0
+IsShortRefusal program config thread block count (refusal.Ended (ending.Differs (difference.Parts fault))) =
+    FallsShort program config thread block.journal count fault
+IsShortRefusal program config thread block count refusal.Memory = Unit {0}
+IsShortRefusal program config thread block count other = ⊥
+
+-- the end of `ckpt`, by the program's file and the report, which are accepted
+abbrev pub EndsCheckpoint : List ℕ → List ℕ → ℕ → ℕ → Result Answer Refusal → Type 0
+EndsCheckpoint file report thread count (Ok (answer.Text answered)) =
+    IsCheckpointOf file report thread count (answer_text answered)
+EndsCheckpoint file report thread count (Ok (answer.Session d)) = ⊥
+EndsCheckpoint file report thread count (Err (refusal.Ended (ending.Mismatch line kind))) =
+    IsMismatched file report thread (record { line = line; kind = kind })
+EndsCheckpoint file report thread count (Err (refusal.Ended (ending.Late most))) =
+    IsLate file report thread count (checkpoint_line (Count most))
+EndsCheckpoint file report thread count (Err (refusal.Ended (ending.Differs it))) =
+    IsShort file report thread count (difference_text it)
+EndsCheckpoint file report thread count (Err refusal.Memory) = Unit {0}
+EndsCheckpoint file report thread count (Err other) = ⊥
+
+-- ---- the rest of a run
+
+-- the thread goes on in its state, which is not past the block's count and has used no more events than the
+-- block's journal has
+pub record IsInBlock (block : Block) (loose : Loose) : Type 0 where
+  pub runs : loose_stop loose ≡ None
+  pub most : (loose_state loose).count ≤ block.count
+  pub used : loose_events loose ≤ length block.journal
+
+-- the state is that of a checkpoint for a report, with the report's options
+pub record IsStateFor (said : Report) (config : Config) (checkpoint : List ℕ) (loose : Loose) : Type 0 where
+  pub reads : ReadsCheckpoint checkpoint said (loose_state loose) (loose_thread loose) (loose_events loose)
+  pub options : loose_config loose ≡ config
+  pub thread : loose_thread loose < said.options.threads
+  pub block : (block : Block) → slice_get said.blocks (loose_thread loose) ≡ Some block
+      → IsInBlock block loose
+
+-- the events that are left of a block's journal
+abbrev pub rest_in : Block → Loose → List Event
+rest_in block loose = drop (loose_events loose) block.journal
+
+-- the thread parts so from these and from the block's count
+abbrev pub IsRestRefusal : Block → Loose → Refusal → Type 0
+IsRestRefusal block loose (refusal.Ended (ending.Differs (difference.Parts fault))) =
+    IsPartingFrom (loose_config loose) (loose_thread loose) (loose_state loose) (loose_events loose)
+    (rest_in block loose) block.count fault
+IsRestRefusal block loose refusal.Memory = Unit {0}
+IsRestRefusal block loose other = ⊥
+
+-- the text of the block of a thread that ended so
+abbrev pub ended_text : Loose → Stop → List Event → List ℕ
+ended_text loose stop journal =
+    block_text (version_of (loose_config loose)) (loose_thread loose) (loose_state loose) (Some stop) journal
+
+-- the end of `resume`, by the program's file, the report and the checkpoint, which are accepted
+abbrev pub EndsResume : List ℕ → List ℕ → List ℕ → Result Answer Refusal → Type 0
+EndsResume file report checkpoint (Ok (answer.Text answered)) =
+    IsResumeOf file report checkpoint (answer_text answered)
+EndsResume file report checkpoint (Ok (answer.Session d)) = ⊥
+EndsResume file report checkpoint (Err (refusal.Ended (ending.Mismatch line kind))) =
+    IsOtherProgram file report checkpoint (report_line (record { line = line; kind = kind }))
+EndsResume file report checkpoint (Err (refusal.Ended (ending.Differs it))) =
+    RestDiffers file report checkpoint (difference_text it)
+EndsResume file report checkpoint (Err refusal.Memory) = Unit {0}
+EndsResume file report checkpoint (Err other) = ⊥
 
 -- ---- checks of marked calls
 

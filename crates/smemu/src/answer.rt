@@ -52,6 +52,8 @@ pub enum Text {
     Program(Vec<u8>),
     /// The block of a thread that was replayed, which stands in its report.
     Block(Excerpt),
+    /// The bytes of the checkpoint of a thread.
+    Checkpoint(Vec<u8>),
     /// How many marked calls of a thread returned, and how many did not, where none is at fault.
     Lawful { calls: u32, unreturned: u32 },
     /// Lines, without their line feeds.
@@ -108,6 +110,7 @@ pub fn write_text<K: Sink>(out: &mut K, text: &Text) -> Result<(), PutFault>
         Text::Listing(image) => write_listing(image.code(), out),
         Text::Program(bytes) => out.put(bytes.as_slice()),
         Text::Block(block) => out.put(block.bytes()),
+        Text::Checkpoint(bytes) => out.put(bytes.as_slice()),
         Text::Lawful { calls, unreturned } => write_lawful(out, *calls, *unreturned),
         Text::Lines(lines) => write_lines(out, lines.as_slice()),
         Text::Source(number) => write_source(*number, out),

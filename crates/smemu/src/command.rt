@@ -20,10 +20,14 @@ ghost use Rattle.smemu.specs.declared.refusal.Refusal.TheVariants as refusals;
 use crate::answer::{Answer, RunReport, Text, write_text};
 use crate::bench::run_workload;
 use crate::check::check_report;
+use crate::checkpoint::checkpoint_report;
 use crate::debug::{debug_report, write_session};
-use crate::files::{open_plan, open_program, open_report, open_script, open_source};
+use crate::files::{
+    open_checkpoint, open_plan, open_program, open_report, open_script, open_source,
+};
 use crate::refusal::{Refusal, status_of, write_refusal};
 use crate::replay::replay_report;
+use crate::resume::resume_report;
 use crate::run::run_on_one;
 use crate::simulate::simulate;
 use crate::threaded::{Threaded, carry_out_threaded, takes_threads};
@@ -171,6 +175,41 @@ fn debug_thread<F: Files>(
     debug_report(alloc, file, read, thread, commands)
 }
 
+/// `ckpt PROGRAM REPORT THREAD COUNT`: the checkpoint of that thread of the report at that count.
+fn checkpoint_thread<F: Files>(
+    alloc: Global,
+    program: String,
+    report: String,
+    thread: u32,
+    count: u32,
+    files: &mut F,
+) -> Result<Answer, Refusal>
+    ensures { CarriesOut F.fetched F.view (request_of (command.Ckpt program report thread count)) files.old
+        files.new result }
+{
+    let file = open_program(alloc, program, files)?;
+    let read = open_report(alloc, report, files)?;
+    let bytes = file.bytes.as_slice();
+    checkpoint_report(alloc, bytes, &file.content, &read, thread, count)
+}
+
+/// `resume PROGRAM REPORT CKPT`: the rest of the run of the thread of that checkpoint.
+fn resume_thread<F: Files>(
+    alloc: Global,
+    program: String,
+    report: String,
+    checkpoint: String,
+    files: &mut F,
+) -> Result<Answer, Refusal>
+    ensures { CarriesOut F.fetched F.view (request_of (command.Resume program report checkpoint)) files.old
+        files.new result }
+{
+    let file = open_program(alloc, program, files)?;
+    let read = open_report(alloc, report, files)?;
+    let state = open_checkpoint(alloc, checkpoint, &read.content, files)?;
+    resume_report(alloc, &file, read, state)
+}
+
 /// `abi-check PROGRAM REPORT THREAD`: the check of the marked calls of that thread of the report.
 fn check_thread<F: Files>(
     alloc: Global,
@@ -240,6 +279,17 @@ fn carry_out<F: Files>(alloc: Global, asked: Command, files: &mut F) -> Result<A
             thread,
             script,
         } => debug_thread(alloc, program, report, thread, script, files),
+        Command::Ckpt {
+            program,
+            report,
+            thread,
+            count,
+        } => checkpoint_thread(alloc, program, report, thread, count, files),
+        Command::Resume {
+            program,
+            report,
+            checkpoint,
+        } => resume_thread(alloc, program, report, checkpoint, files),
         Command::AbiCheck {
             program,
             report,
@@ -365,6 +415,9 @@ pub fn smemu_alone<F: Files, K: Sink>(
 /// - `debug PROGRAM REPORT THREAD SCRIPT` carries out the commands of the script of that name over such a
 ///   run: what they print, each answer when it comes, so that with `OutOfMemory` those of earlier commands
 ///   may be written;
+/// - `ckpt PROGRAM REPORT THREAD COUNT` makes such a run up to a count of its instructions: the checkpoint of
+///   where it stands then;
+/// - `resume PROGRAM REPORT CKPT` makes the rest of such a run from the checkpoint of that name: its block;
 /// - `abi-check PROGRAM REPORT THREAD` makes such a run, and tells the first fault of its marked calls, or
 ///   how many of these returned;
 /// - `dis PROGRAM` lists the program;

@@ -6,7 +6,9 @@ ghost use Rattle.smemu.specs.Views.{ending_status, ending_text};
 use crate::check::kind_word;
 use crate::differ_line::write_difference;
 use abi_checker::AbiKind;
-use command_lines::{Status, write_report_fault, write_unlawful};
+use command_lines::{
+    CheckpointFault, Status, write_checkpoint_fault, write_report_fault, write_unlawful,
+};
 use edge_io::{PutFault, Sink};
 use lone_runner::AloneFault;
 use report_reader::ReportKind;
@@ -18,6 +20,8 @@ pub enum Ending {
     Mismatch { line: u64, kind: ReportKind },
     /// The thread that is replayed and its report part.
     Differs(Difference),
+    /// The count is not below that of the block, which is told: there is no checkpoint.
+    Late(u32),
     /// A marked call of the thread is at fault: the count and the PC of the place, and the kind.
     Unlawful { count: u32, pc: u64, kind: AbiKind },
 }
@@ -42,6 +46,7 @@ pub fn status_of_ending(ending: &Ending) -> Status
     match ending {
         Ending::Mismatch { .. } => Status::BadReport,
         Ending::Differs(_) => Status::Differs,
+        Ending::Late(_) => Status::BadCheckpoint,
         Ending::Unlawful { .. } => Status::Unlawful,
     }
 }
@@ -53,6 +58,7 @@ pub fn write_ending<K: Sink>(out: &mut K, ending: &Ending) -> Result<(), PutFaul
     match ending {
         Ending::Mismatch { line, kind } => write_report_fault(out, *line, *kind),
         Ending::Differs(it) => write_difference(out, it),
+        Ending::Late(end) => write_checkpoint_fault(out, CheckpointFault::Count(*end)),
         Ending::Unlawful { count, pc, kind } => {
             write_unlawful(out, *count, *pc, kind_word(*kind))
         }

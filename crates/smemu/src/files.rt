@@ -1,5 +1,5 @@
 //! The files that a command names: each is fetched with its limit, and accepted as what it is to be.
-ghost use Rattle.std.specs.Prelude.{◌≡◌, All, IfOk, IfErr, Ok, map};
+ghost use Rattle.std.specs.Prelude.{◌≡◌, All, IfOk, IfErr, None, Ok, map};
 ghost use Rattle.std.specs.String.{string_bytes};
 ghost use Rattle.asm_core.specs.Assembly.{Assembles};
 ghost use Rattle.a64_encode.specs.Writable.{IsWritable};
@@ -13,17 +13,20 @@ ghost use Rattle.vector_runner.specs.Grammar.{vectors_in, IsVector};
 ghost use Rattle.vector_runner.specs.Told.{vector_told};
 ghost use Rattle.smemu.specs.Ends.{change};
 ghost use Rattle.smemu.specs.Rejections.{ProgramFile, SourceFile, ReportFile, PlanFile, ScriptFile};
-ghost use Rattle.smemu.specs.Rejections.{VectorsFile};
+ghost use Rattle.smemu.specs.Rejections.{CheckpointFile, VectorsFile};
 ghost use Rattle.smemu.specs.Rejections.{limit_of, program_judge, source_judge, report_judge};
-ghost use Rattle.smemu.specs.Rejections.{plan_judge, script_judge, vectors_judge};
-ghost use Rattle.smemu.specs.Views.{IsFront, IsUnread, IsRejected, IsOpened, IsUnopened};
+ghost use Rattle.smemu.specs.Rejections.{plan_judge, script_judge, checkpoint_judge, vectors_judge};
+ghost use Rattle.smemu.specs.Views.{IsFront, IsUnread, IsRejected, IsOpened, IsStateFor};
+ghost use Rattle.smemu.specs.Views.{IsUnopened};
 
 use crate::refusal::{Refusal, Unread};
 use crate::rejection::Rejection;
 use asm_core::{AsmFault, assemble};
-use command_lines::VectorsFault;
+use ckpt_file::{CkptFault, read_ckpt};
+use command_lines::{CheckpointFault, VectorsFault};
 use edge_io::{FileFault, Files};
 use elf_loader::{LoadFault, load};
+use kernel_contexts::Loose;
 use line_reader::TextFault;
 use paged_memory::Image;
 use plan_reader::read_plan;
@@ -33,8 +36,8 @@ use sm_types::{Object, VecLen, WorldEvent};
 use std::alloc::Global;
 use vector_runner::{Vector, VectorFault, read_vectors};
 
-/// A file of more bytes than a program file, a source, a plan, a script or a file of vectors may have is
-/// fetched up to its first byte too many.
+/// A file of more bytes than a program file, a source, a plan, a script, a checkpoint or a file of vectors
+/// may have is fetched up to its first byte too many.
 const FETCH_LIMIT: u64 = 67_108_865;
 
 /// The same of a report.
@@ -140,6 +143,28 @@ fn script_file(alloc: Global, bytes: &[u8]) -> Result<Vec<DebugCommand>, Refusal
             Err(Refusal::Rejected(Rejection::Plan { line, kind }))
         }
         Err(TextFault::Memory) => Err(Refusal::Memory),
+    }
+}
+
+/// The state of a checkpoint, for a report.
+fn checkpoint_file(alloc: Global, bytes: &[u8], report: &Report) -> Result<Loose, Refusal>
+    ensures read { IfOk result (IsStateFor (report_said report.now) report.now.config bytes.now) }
+    ensures accepted { IfOk result (λ loose.
+        checkpoint_judge (Ok (report_said report.now)) bytes.now ≡ None) }
+    ensures rejected { IfErr result
+        (IsRejected (checkpoint_judge (Ok (report_said report.now))) bytes.now) }
+{
+    match read_ckpt(alloc, bytes, report) {
+        Ok(loose) => Ok(loose),
+        Err(CkptFault::TooLong) => {
+            let fault = CheckpointFault::TooLong;
+            Err(Refusal::Rejected(Rejection::Checkpoint(fault)))
+        }
+        Err(CkptFault::Field(offset)) => {
+            let fault = CheckpointFault::Field(offset);
+            Err(Refusal::Rejected(Rejection::Checkpoint(fault)))
+        }
+        Err(CkptFault::Memory) => Err(Refusal::Memory),
     }
 }
 
@@ -261,6 +286,27 @@ pub fn open_script<F: Files>(
 {
     let bytes = fetch_file(alloc, name, FETCH_LIMIT, files)?;
     let content = script_file(alloc, bytes.as_slice())?;
+    Ok(Opened { bytes, content })
+}
+
+/// The checkpoint of that name, read for a report.
+pub fn open_checkpoint<F: Files>(
+    alloc: Global,
+    name: String,
+    report: &Report,
+    files: &mut F,
+) -> Result<Opened<Loose>, Refusal>
+    ensures opened { IfOk result (λ it. IsOpened (F.view files.old).told (string_bytes name)
+        (checkpoint_judge (Ok (report_said report.now))) it.bytes.items) }
+    ensures read { IfOk result (λ it.
+        IsStateFor (report_said report.now) report.now.config it.bytes.items it.content) }
+    ensures unopened { IfErr result (IsUnopened (change F.view files.old files.new) (string_bytes name)
+        (checkpoint_judge (Ok (report_said report.now)))) }
+    ensures kept { IsKept (F.view files.old) (F.view files.new) }
+    ensures fetched { F.fetched files.old (string_bytes name) (limit_of CheckpointFile) files.new }
+{
+    let bytes = fetch_file(alloc, name, FETCH_LIMIT, files)?;
+    let content = checkpoint_file(alloc, bytes.as_slice(), report)?;
     Ok(Opened { bytes, content })
 }
 

@@ -2,7 +2,8 @@
 //! report of its run, makes the events of a plan and writes which were skipped, the report and the history,
 //! lists a program's code words, assembles a source and writes the program file, runs a thread of a report
 //! alone and writes its block, carries out a script of the debugger over such a run and writes what it shows,
-//! checks the marked calls of such a run, answers the vectors of a file, or writes or runs a workload.
+//! writes a checkpoint of such a run or the block to which the rest of one comes, checks its marked calls,
+//! answers the vectors of a file, or writes or runs a workload.
 //!
 //! Its contract says, for all words, files and sinks: with `Done` what the words ask for was written, which
 //! is the report of the program that the file stands for, of which each thread ends as it does alone over its
@@ -20,6 +21,7 @@
 mod answer;
 mod bench;
 mod check;
+mod checkpoint;
 mod command;
 mod compare;
 mod debug;
@@ -32,6 +34,7 @@ mod lines;
 mod refusal;
 mod rejection;
 mod replay;
+mod resume;
 mod run;
 mod simulate;
 mod threaded;

@@ -5,8 +5,8 @@ ghost use Rattle.smemu.specs.Rejections.{rejection_line, rejection_status};
 
 use asm_core::AsmFault;
 use command_lines::{
-    Status, VectorsFault, write_fault, write_plan_fault, write_report_fault, write_source_fault,
-    write_vectors_fault,
+    CheckpointFault, Status, VectorsFault, write_checkpoint_fault, write_fault, write_plan_fault,
+    write_report_fault, write_source_fault, write_vectors_fault,
 };
 use edge_io::{PutFault, Sink};
 use elf_loader::LoadFault;
@@ -24,6 +24,8 @@ pub enum Rejection {
     Report { line: u64, kind: ReportKind },
     /// It is no plan, or no script: its first line that is not in the format, and what is wrong there.
     Plan { line: u64, kind: TextKind },
+    /// It is no checkpoint for the report.
+    Checkpoint(CheckpointFault),
     /// It is no file of vectors, for the lengths of the options.
     Vectors(VectorsFault),
 }
@@ -37,6 +39,7 @@ pub fn status_of_rejection(rejection: &Rejection) -> Status
         Rejection::Source(_) => Status::BadSource,
         Rejection::Report { .. } => Status::BadReport,
         Rejection::Plan { .. } => Status::BadPlan,
+        Rejection::Checkpoint(_) => Status::BadCheckpoint,
         Rejection::Vectors(_) => Status::BadVectors,
     }
 }
@@ -50,6 +53,7 @@ pub fn write_rejection<K: Sink>(out: &mut K, rejection: &Rejection) -> Result<()
         Rejection::Source(fault) => write_source_fault(out, *fault),
         Rejection::Report { line, kind } => write_report_fault(out, *line, *kind),
         Rejection::Plan { line, kind } => write_plan_fault(out, *line, *kind),
+        Rejection::Checkpoint(fault) => write_checkpoint_fault(out, *fault),
         Rejection::Vectors(fault) => write_vectors_fault(out, *fault),
     }
 }

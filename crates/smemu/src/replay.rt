@@ -1,6 +1,7 @@
 //! The replay of a guest thread of a report: the thread is run alone, answered by its journal, and its block
 //! is compared with the report's.
-ghost use Rattle.std.specs.Prelude.{◌≡◌, ◌≤◌, ◌<◌, IfOk, IfErr, OnOk, All, Ok, None, IsTrue, true, length};
+ghost use Rattle.std.specs.Prelude.{◌≡◌, ◌≤◌, ◌<◌, ◌^◌, IfOk, IfErr, OnOk, All, Ok, None, IsTrue, true};
+ghost use Rattle.std.specs.Prelude.{length};
 ghost use Rattle.sha2.specs.Sha256.{sha256};
 ghost use Rattle.elf_loader.specs.Loading.{Loads};
 ghost use Rattle.kernel_contexts.specs.Context.{journal_of, state_of, is_home};
@@ -98,6 +99,25 @@ fn is_block(text: &[u8], version: Version, context: &Context) -> bool
     write_block_as(version, context, &mut comparison).is_ok() && is_word(comparison.came(), text)
 }
 
+/// Compares the text of a block of the report, whose first line has this number, with that of the replay.
+pub fn compare_texts(
+    alloc: Global,
+    text: &[u8],
+    first_line: u64,
+    replay: &[u8],
+) -> Result<(), Refusal>
+    requires size { length text.now ≤ 1073741824 }
+    requires lines { first_line < 2 ^ 63 }
+    ensures { ComparesSo text.now first_line replay.now result }
+{
+    let Some(it) = first_difference(text, replay) else {
+        return Ok(());
+    };
+    let line = first_line + it.line as u64;
+    let other = other_line(alloc, line, it.first, it.second)?;
+    Err(Refusal::Ended(Ending::Differs(other)))
+}
+
 /// Compares a block of the report with that of the thread that was run alone, in a version of the report.
 fn compare(
     alloc: Global,
@@ -120,12 +140,7 @@ fn compare(
     if write_block_as(version, context, &mut replay).is_err() {
         return Err(Refusal::Memory);
     }
-    let Some(it) = first_difference(text, replay.bytes()) else {
-        return Ok(());
-    };
-    let line = block.first_line + it.line as u64;
-    let other = other_line(alloc, line, it.first, it.second)?;
-    Err(Refusal::Ended(Ending::Differs(other)))
+    compare_texts(alloc, text, block.first_line, replay.bytes())
 }
 
 /// Where the block of a thread stands in its report, where running the thread alone comes to it.

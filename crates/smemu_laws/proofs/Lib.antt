@@ -3,6 +3,8 @@ pub mod OneAnswer
 pub mod EachAnswer
 pub mod OneDebug
 pub mod OneCheck
+pub mod OneCheckpoint
+pub mod OneResume
 pub mod OneEnding
 pub mod Beginnings
 pub mod Fates

@@ -3,7 +3,7 @@ use Rattle.std.proofs.Common.{◌≡◌, ℕ, List, [], ◌∷◌, Some, refl, s
 use Rattle.cmd_words.specs.Forms.{form_of}
 use Rattle.cmd_words.specs.Words.{Request, arguments_of, command_of}
 use Rattle.cmd_words.specs.declared.verb.Verb.{Verb}
-use Rattle.cmd_words.specs.declared.verb.Verb.TheVariants.{Sim, Replay, Debug, AbiCheck}
+use Rattle.cmd_words.specs.declared.verb.Verb.TheVariants.{Sim, Replay, Debug, Ckpt, Resume, AbiCheck}
 use Rattle.smemu.specs.Requests.{files_named, kinds_of, named_by}
 use Rattle.smemu.proofs.Words.{asked_for}
 use Rattle.smemu_laws.specs.Names.{names_of, names_said}
@@ -24,6 +24,15 @@ named_so Debug (program ∷ []) = refl
 named_so Debug (program ∷ report ∷ []) = refl
 named_so Debug (program ∷ report ∷ thread ∷ []) = refl
 named_so Debug (program ∷ report ∷ thread ∷ script ∷ words) = refl
+named_so Ckpt [] = refl
+named_so Ckpt (program ∷ []) = refl
+named_so Ckpt (program ∷ report ∷ []) = refl
+named_so Ckpt (program ∷ report ∷ thread ∷ []) = refl
+named_so Ckpt (program ∷ report ∷ thread ∷ count ∷ words) = refl
+named_so Resume [] = refl
+named_so Resume (program ∷ []) = refl
+named_so Resume (program ∷ report ∷ []) = refl
+named_so Resume (program ∷ report ∷ checkpoint ∷ words) = refl
 named_so AbiCheck [] = refl
 named_so AbiCheck (program ∷ []) = refl
 named_so AbiCheck (program ∷ report ∷ []) = refl

@@ -2,6 +2,8 @@
 use Rattle.std.proofs.Common.{◌≡◌, ℕ, List, [], ◌∷◌, length, cond, Option, Some, Result, Ok, sym, ◌∙◌, ap}
 use Rattle.std.proofs.Common.{subst}
 use Rattle.std.specs.Prelude.{◌==◌, slice_get, slice_index}
+use Rattle.std.specs.Str.{bytes_eq}
+use Rattle.std.proofs.lemmas.Slice.Eq.{bytes_eq-Decides}
 use Rattle.sha2.specs.Sha256.{sha256}
 use Rattle.sm_types.specs.declared.config.Config.{Config}
 use Rattle.sm_types.specs.declared.object.Object.{Object}
@@ -19,6 +21,7 @@ use Rattle.sm_types.specs.declared.world_event.WorldEvent.{WorldEvent}
 use Rattle.paged_memory.specs.Image.{Extent, IsMemoryOf, Program}
 use Rattle.report_text.specs.Report.{ThreadEnd, report_text}
 use Rattle.report_reader.specs.Block.{Block}
+use Rattle.line_reader.specs.Difference.{Difference, first_difference}
 use Rattle.report_reader.specs.Reading.{Fault}
 use Rattle.report_reader.specs.Report.{Report, report_in}
 use Rattle.smemu.specs.Replay.{IsBlockIn, IsReplayOf, text_in}
@@ -138,6 +141,17 @@ pub one_replay : (file report : List ℕ) (thread : ℕ) (text other : List ℕ)
     → IsReplayOf file report thread other → text ≡ other
 one_replay file report thread text other h g =
     sym h.same ∙ ap (text_in report) (one_block file report thread h.at g.at).block ∙ g.same
+
+-- a text differs from itself in no line
+pub no_line : (n : ℕ) (lines : List (List ℕ)) → first_difference n lines lines ≡ None
+unfolding first_difference
+no_line n [] = refl
+no_line n (a ∷ rest) =
+    let same : bytes_eq a a ≡ true = (bytes_eq-Decides a a).1 refl in
+    ap (λ t. cond t (first_difference (n + 1) rest rest) (Some (record { line = n; first = a; second = a }))) same ∙ no_line (n + 1) rest
+
+pub none_some : (o : Option Difference) (it : Difference) → o ≡ None → o ≡ Some it → ⊥
+none_some o it e h = cc
 
 -- ---- runs and listings
 

@@ -6,10 +6,10 @@ use Rattle.sha2.specs.Sha256.{sha256}
 use Rattle.sm_types.specs.Options.{version_of}
 use Rattle.sm_types.specs.declared.config.Config.{Config}
 use Rattle.sm_types.specs.declared.numbers.Numbers.{Numbers}
-use Rattle.cmd_words.specs.Words.{Argument, ThreadSaid, WorkloadSaid, Request, command_of}
+use Rattle.cmd_words.specs.Words.{Argument, ThreadSaid, WorkloadSaid, CountSaid, Request, command_of}
 use Rattle.cmd_words.specs.declared.verb.Verb.{Verb}
-use Rattle.cmd_words.specs.declared.verb.Verb.TheVariants.{Run, Sim, Dis, Asm, Replay, Debug, AbiCheck, Vectors, Gen, Bench}
-use Rattle.cmd_words.specs.declared.verb.Verb.TheVariants.{Help, Version}
+use Rattle.cmd_words.specs.declared.verb.Verb.TheVariants.{Run, Sim, Dis, Asm, Replay, Debug, Ckpt, Resume, AbiCheck, Vectors}
+use Rattle.cmd_words.specs.declared.verb.Verb.TheVariants.{Gen, Bench, Help, Version}
 use Rattle.edge_io.specs.Files.{FilesView}
 use Rattle.lone_runner.specs.Parting.{EndsAt, IsParting}
 use Rattle.abi_checker.specs.declared.abi.Abi.{Abi}
@@ -27,6 +27,7 @@ use Rattle.report_text.specs.Block.{block_text}
 use Rattle.command_lines.specs.ReportLines.{difference_lines, report_line}
 use Rattle.command_lines.specs.declared.status.Status.{Status}
 use Rattle.command_lines.specs.declared.status.Status.TheVariants.{Done, Absent, ReadFault, OutOfMemory, BadReport, Differs, Unlawful}
+use Rattle.command_lines.specs.declared.status.Status.TheVariants.{BadCheckpoint}
 use Rattle.smemu.specs.Answers.{IsOutcome, IsToldBy, outcomes_of, outcome}
 use Rattle.smemu.specs.Checks.{IsCheckOf}
 use Rattle.smemu.specs.DifferLines.{parting_line}
@@ -39,22 +40,13 @@ use Rattle.smemu.specs.declared.rejection.Rejection.{Rejection}
 use Rattle.smemu.specs.declared.rejection.Rejection.TheVariants as rejection
 use Rattle.smemu_laws.specs.OneAnswer.{AreOneText}
 use Rattle.smemu_laws.proofs.Fates.{Fate, AllAccepted, Missing, Refused, IsDecided, missing_line, accepted_fate, decided}
-use Rattle.smemu_laws.proofs.OneAnswer.{same_said, one_assembly, one_block, one_listing, one_replay, one_run_report}
+use Rattle.smemu_laws.proofs.OneAnswer.{same_said, no_line, none_some, one_assembly, one_block, one_listing, one_replay, one_run_report}
 use Rattle.smemu_laws.proofs.OneAnswer.{one_answers, one_bench, one_simulation}
 use Rattle.smemu_laws.proofs.OneCheck.{lawful_or_not, one_lawful, one_unlawful}
+use Rattle.smemu_laws.proofs.OneCheckpoint.{one_checkpoint, one_late, one_short, short_or_late, stands_or_late, stands_or_short}
+use Rattle.smemu_laws.proofs.OneResume.{differs_or_other, one_rest_difference, one_resume, resumed_or_differs, resumed_or_other}
 use Rattle.smemu_laws.proofs.OneDebug.{debug_whole, one_debug}
 use Rattle.command_lines.specs.Texts.{HasFront}
-
--- a text differs from itself in no line
-no_line : (n : ℕ) (lines : List (List ℕ)) → first_difference n lines lines ≡ None
-unfolding first_difference
-no_line n [] = refl
-no_line n (a ∷ rest) =
-    let same : bytes_eq a a ≡ true = (bytes_eq-Decides a a).1 refl in
-    ap (λ t. cond t (first_difference (n + 1) rest rest) (Some (record { line = n; first = a; second = a }))) same ∙ no_line (n + 1) rest
-
-none_some : (o : Option Difference) (it : Difference) → o ≡ None → o ≡ Some it → ⊥
-none_some o it e h = cc
 
 no_fault : (o : Option Fault) (fault : Fault) → o ≡ None → o ≡ Some fault → ⊥
 no_fault o fault e h = cc
@@ -236,6 +228,56 @@ one_outcome Debug BadReport Differs (program ∷ report ∷ ThreadSaid thread �
 one_outcome Debug Differs BadReport (program ∷ report ∷ ThreadSaid thread ∷ script ∷ []) options (file ∷ bytes ∷ lines ∷ [])
     text other m n h g =
     absurd (matched file bytes thread h.at g.fault g.is_mismatched)
+one_outcome Ckpt Done Done (program ∷ report ∷ ThreadSaid thread ∷ CountSaid count ∷ []) options (file ∷ bytes ∷ []) text other m n h g =
+    (refl, one_checkpoint file bytes thread count text other h g)
+one_outcome Ckpt BadCheckpoint BadCheckpoint (program ∷ report ∷ ThreadSaid thread ∷ CountSaid count ∷ []) options (file ∷ bytes ∷ []) text other m n h g =
+    (refl, one_late file bytes thread count text other h g)
+one_outcome Ckpt BadReport BadReport (program ∷ report ∷ ThreadSaid thread ∷ CountSaid count ∷ []) options (file ∷ bytes ∷ []) text other m n h g =
+    (refl, one_mismatch file bytes thread text other h g)
+one_outcome Ckpt Differs Differs (program ∷ report ∷ ThreadSaid thread ∷ CountSaid count ∷ []) options (file ∷ bytes ∷ []) text other m n h g =
+    (refl, one_short file bytes thread count text other h g)
+one_outcome Ckpt Done BadCheckpoint (program ∷ report ∷ ThreadSaid thread ∷ CountSaid count ∷ []) options (file ∷ bytes ∷ []) text other m n h g =
+    absurd (stands_or_late file bytes thread count text other h g)
+one_outcome Ckpt BadCheckpoint Done (program ∷ report ∷ ThreadSaid thread ∷ CountSaid count ∷ []) options (file ∷ bytes ∷ []) text other m n h g =
+    absurd (stands_or_late file bytes thread count other text g h)
+one_outcome Ckpt Done BadReport (program ∷ report ∷ ThreadSaid thread ∷ CountSaid count ∷ []) options (file ∷ bytes ∷ []) text other m n h g =
+    absurd (matched file bytes thread h.at g.fault g.is_mismatched)
+one_outcome Ckpt BadReport Done (program ∷ report ∷ ThreadSaid thread ∷ CountSaid count ∷ []) options (file ∷ bytes ∷ []) text other m n h g =
+    absurd (matched file bytes thread g.at h.fault h.is_mismatched)
+one_outcome Ckpt Done Differs (program ∷ report ∷ ThreadSaid thread ∷ CountSaid count ∷ []) options (file ∷ bytes ∷ []) text other m n h g =
+    absurd (stands_or_short file bytes thread count text other h g)
+one_outcome Ckpt Differs Done (program ∷ report ∷ ThreadSaid thread ∷ CountSaid count ∷ []) options (file ∷ bytes ∷ []) text other m n h g =
+    absurd (stands_or_short file bytes thread count other text g h)
+one_outcome Ckpt BadCheckpoint BadReport (program ∷ report ∷ ThreadSaid thread ∷ CountSaid count ∷ []) options (file ∷ bytes ∷ []) text other m n h g =
+    absurd (matched file bytes thread h.at g.fault g.is_mismatched)
+one_outcome Ckpt BadReport BadCheckpoint (program ∷ report ∷ ThreadSaid thread ∷ CountSaid count ∷ []) options (file ∷ bytes ∷ []) text other m n h g =
+    absurd (matched file bytes thread g.at h.fault h.is_mismatched)
+one_outcome Ckpt BadCheckpoint Differs (program ∷ report ∷ ThreadSaid thread ∷ CountSaid count ∷ []) options (file ∷ bytes ∷ []) text other m n h g =
+    absurd (short_or_late file bytes thread count other text g h)
+one_outcome Ckpt Differs BadCheckpoint (program ∷ report ∷ ThreadSaid thread ∷ CountSaid count ∷ []) options (file ∷ bytes ∷ []) text other m n h g =
+    absurd (short_or_late file bytes thread count text other h g)
+one_outcome Ckpt BadReport Differs (program ∷ report ∷ ThreadSaid thread ∷ CountSaid count ∷ []) options (file ∷ bytes ∷ []) text other m n h g =
+    absurd (matched file bytes thread g.at h.fault h.is_mismatched)
+one_outcome Ckpt Differs BadReport (program ∷ report ∷ ThreadSaid thread ∷ CountSaid count ∷ []) options (file ∷ bytes ∷ []) text other m n h g =
+    absurd (matched file bytes thread h.at g.fault g.is_mismatched)
+one_outcome Resume Done Done operands options (file ∷ bytes ∷ checkpoint ∷ []) text other m n h g =
+    (refl, one_resume file bytes checkpoint text other h g)
+one_outcome Resume BadReport BadReport operands options (file ∷ bytes ∷ checkpoint ∷ []) text other m n h g =
+    (refl, h.is_text ∙ sym g.is_text)
+one_outcome Resume Differs Differs operands options (file ∷ bytes ∷ checkpoint ∷ []) text other m n h g =
+    (refl, one_rest_difference file bytes checkpoint text other h g)
+one_outcome Resume Done BadReport operands options (file ∷ bytes ∷ checkpoint ∷ []) text other m n h g =
+    absurd (resumed_or_other file bytes checkpoint text other h g)
+one_outcome Resume BadReport Done operands options (file ∷ bytes ∷ checkpoint ∷ []) text other m n h g =
+    absurd (resumed_or_other file bytes checkpoint other text g h)
+one_outcome Resume Done Differs operands options (file ∷ bytes ∷ checkpoint ∷ []) text other m n h g =
+    absurd (resumed_or_differs file bytes checkpoint text other h g)
+one_outcome Resume Differs Done operands options (file ∷ bytes ∷ checkpoint ∷ []) text other m n h g =
+    absurd (resumed_or_differs file bytes checkpoint other text g h)
+one_outcome Resume BadReport Differs operands options (file ∷ bytes ∷ checkpoint ∷ []) text other m n h g =
+    absurd (differs_or_other file bytes checkpoint other text g h)
+one_outcome Resume Differs BadReport operands options (file ∷ bytes ∷ checkpoint ∷ []) text other m n h g =
+    absurd (differs_or_other file bytes checkpoint text other h g)
 one_outcome AbiCheck Done Done (program ∷ report ∷ ThreadSaid thread ∷ []) options (file ∷ bytes ∷ []) text other m n h g =
     (refl, one_lawful file bytes thread text other h g)
 one_outcome AbiCheck Unlawful Unlawful (program ∷ report ∷ ThreadSaid thread ∷ []) options (file ∷ bytes ∷ []) text other m n h g =
@@ -276,6 +318,11 @@ one_outcome Help Done Done operands options files text other m n h g = (refl, h 
 one_outcome Version Done Done operands options files text other m n h g = (refl, h ∙ sym g)
 one_outcome Replay BadReport t operands options files text other m n h g = absurd g
 one_outcome Replay Differs t operands options files text other m n h g = absurd g
+one_outcome Ckpt BadReport t operands options files text other m n h g = absurd g
+one_outcome Ckpt BadCheckpoint t operands options files text other m n h g = absurd g
+one_outcome Ckpt Differs t operands options files text other m n h g = absurd g
+one_outcome Resume BadReport t operands options files text other m n h g = absurd g
+one_outcome Resume Differs t operands options files text other m n h g = absurd g
 one_outcome AbiCheck BadReport t operands options files text other m n h g = absurd g
 one_outcome AbiCheck Differs t operands options files text other m n h g = absurd g
 one_outcome AbiCheck Unlawful t operands options files text other m n h g = absurd g

@@ -398,6 +398,9 @@ mod tests {
             "\n  asm SOURCE ",
             "\n  replay PROGRAM REPORT THREAD\n",
             "\n  debug PROGRAM REPORT THREAD SCRIPT\n",
+            "\n  ckpt PROGRAM REPORT THREAD COUNT\n",
+            "\n  resume PROGRAM REPORT CKPT\n",
+            "\n  abi-check PROGRAM REPORT THREAD\n",
             "\n  vectors FILE ",
             "\n  gen N ",
             "\n  bench N ",
@@ -416,6 +419,8 @@ mod tests {
             "bad report: line L: KIND",
             "differs: ",
             "bad plan: line L: KIND",
+            "bad checkpoint: toolong, or field K, or count C",
+            "unlawful: count C pc H KIND",
             "bad vectors: toolong, or line L",
         ] {
             assert!(rt; help.contains(part), "{part}");

@@ -1,6 +1,5 @@
 use Rattle.std.proofs.Common.{rules, refl, Err}
 use Rattle.report_reader.specs.Told.{report_said}
-use Rattle.smemu.specs.Replay.{IsBlockIn}
 use Rattle.smemu.specs.Views.{EndsCheck}
 use Rattle.smemu.proofs.Checks.{check_parted, check_unmatched}
 use Rattle.smemu.proofs.Debugs.{block_there}

@@ -1,0 +1,160 @@
+-- The checkpoint of a thread of a report, from what its parts say.
+use Rattle.std.proofs.Common.{◌≡◌, inl, inr, ℕ, zero, suc, ◌<◌, ◌≤◌, ◌&&◌, Bool, true, false, List, [], ◌∷◌, ◌++◌, length, map, refl, sym, ◌∙◌}
+use Rattle.std.proofs.Common.{ap, arith, Option, Some, None, Result, Ok, Err}
+use Rattle.std.specs.Prelude.{nat_le, nat_lt, slice_get, slice_index}
+use Rattle.std.proofs.lemmas.Bool.Decides.{nat_tests}
+use Rattle.cmd_words.specs.Command.{asking}
+use Rattle.cmd_words.specs.Options.{default_options}
+use Rattle.cmd_words.specs.Words.{CountSaid, NameSaid, ThreadSaid}
+use Rattle.cmd_words.specs.declared.verb.Verb.TheVariants.{Ckpt}
+use Rattle.sm_types.specs.declared.config.Config.{Config}
+use Rattle.sm_types.specs.declared.shared_op.Event.{Event}
+use Rattle.sm_types.specs.declared.stop.Stop.{Stop}
+use Rattle.elf_loader.specs.Loading.{Loads}
+use Rattle.kernel_contexts.specs.Context.{journal_of, state_of, stop_of}
+use Rattle.kernel_contexts.specs.Standing.{standing}
+use Rattle.kernel_contexts.specs.State.{State}
+use Rattle.kernel_contexts.specs.declared.context.Context.{Context}
+use Rattle.lone_runner.specs.Parting.{IsShown}
+use Rattle.paged_memory.specs.Image.{Program}
+use Rattle.field_table.specs.Rows.{number, said}
+use Rattle.field_table.specs.Table.{IsFilled}
+use Rattle.byteorder.specs.Endian.{little_bytes, little_number}
+use Rattle.ckpt_fields.specs.Rows.{are_events, checkpoint_table, counts, first_rows, from_registers, is_count, journals, options_rows, thread_rows}
+use Rattle.ckpt_fields.specs.Values.{first_values, option_values, thread_values}
+use Rattle.ckpt_file.specs.Checkpoint.{checkpoint_values, state_values, ReadsCheckpoint}
+use Rattle.ckpt_file.proofs.Filling.{back}
+use Rattle.report_reader.specs.Block.{Block}
+use Rattle.report_reader.specs.Report.{Report, report_in}
+use Rattle.smemu.specs.Checkpoints.{StandsAt, StopsAt}
+use Rattle.smemu.specs.Replay.{IsBlockIn}
+use Rattle.smemu.specs.Views.{EndsAccepted, EndsCheckpoint, IsBeforeRefusal, IsShortRefusal, IsUnmatched}
+use Rattle.smemu.specs.declared.answer.Answer.{Answer}
+use Rattle.smemu.specs.declared.answer.Answer.TheVariants as answer
+use Rattle.smemu.specs.declared.ending.Difference.TheVariants as difference
+use Rattle.smemu.specs.declared.ending.Ending.TheVariants as ending
+use Rattle.smemu.specs.declared.refusal.Refusal.{Refusal}
+use Rattle.smemu.specs.declared.refusal.Refusal.TheVariants as refusal
+
+-- ---- where a thread stands at a count
+
+module _ (program : Program) (config : Config) (thread : ℕ) (journal : List Event) (count : ℕ) (context : Context)
+    (h : IsShown program config thread journal count context)
+  where
+    pub stands_so : stop_of context ≡ None → StandsAt program config thread journal count (state_of context) (length (journal_of context))
+    stands_so is = record {
+      turns = h.turns;
+      left = h.left;
+      reached = h.reached ∙ ap (λ (o : Option Stop). standing (state_of context) o (length (journal_of context)) h.left) is;
+      counts = h.counts;
+      first = h.first;
+    }
+
+    pub stops_so : (stop : Stop) → stop_of context ≡ Some stop → StopsAt program config thread journal count stop
+    stops_so stop is = record {
+      turns = h.turns;
+      state = state_of context;
+      used = length (journal_of context);
+      left = h.left;
+      reached = h.reached ∙ ap (λ (o : Option Stop). standing (state_of context) o (length (journal_of context)) h.left) is;
+      counts = h.counts;
+      first = h.first;
+    }
+
+-- one that parts before the count does not go on there
+pub before_short : (program : Program) (config : Config) (thread : ℕ) (block : Block) (count : ℕ) (r : Refusal)
+    → IsBeforeRefusal program config thread block count r → IsShortRefusal program config thread block count r
+before_short program config thread block count (refusal.Ended (ending.Differs (difference.Parts fault))) h = inl h
+before_short program config thread block count refusal.Memory h = tt
+before_short program config thread block count r h = absurd h
+
+-- ---- the ends of `ckpt`
+
+pub checkpoint_unmatched : (file bytes : List ℕ) (thread count : ℕ) (program : Program) (it : Report) (r : Refusal) → Loads file program
+    → report_in bytes ≡ Ok it → IsUnmatched file thread it r → EndsCheckpoint file bytes thread count (Err r)
+checkpoint_unmatched file bytes thread count program it (refusal.Ended (ending.Mismatch line kind)) loads reads h =
+    record { program = program; loads = loads; said = it; reads = reads; is_fault = h }
+checkpoint_unmatched file bytes thread count program it r loads reads h = absurd h
+
+pub checkpoint_short : (file bytes : List ℕ) (thread count : ℕ) (at : IsBlockIn file bytes thread) (r : Refusal) → count < at.block.count
+    → IsShortRefusal at.program at.config thread at.block count r → EndsCheckpoint file bytes thread count (Err r)
+checkpoint_short file bytes thread count at (refusal.Ended (ending.Differs (difference.Parts fault))) below h =
+    record { at = at; below = below; fault = fault; short = h; is_text = refl }
+checkpoint_short file bytes thread count at refusal.Memory below h = tt
+checkpoint_short file bytes thread count at r below h = absurd h
+
+-- for its request
+pub checkpoint_accepted : (program report : List ℕ) (thread count : ℕ) (file bytes : List ℕ) (end : Result Answer Refusal)
+    → EndsCheckpoint file bytes thread count end
+    → EndsAccepted (asking Ckpt (NameSaid program ∷ NameSaid report ∷ ThreadSaid thread ∷ CountSaid count ∷ []) default_options)
+    (file ∷ bytes ∷ []) end
+checkpoint_accepted program report thread count file bytes (Ok (answer.Text told)) h = h
+checkpoint_accepted program report thread count file bytes (Ok (answer.Session d)) h = absurd h
+checkpoint_accepted program report thread count file bytes (Err (refusal.Ended (ending.Mismatch line kind))) h =
+    record { fault = record { line = line; kind = kind }; is_mismatched = h; is_text = refl }
+checkpoint_accepted program report thread count file bytes (Err (refusal.Ended (ending.Differs it))) h = h
+checkpoint_accepted program report thread count file bytes (Err (refusal.Ended (ending.Late end))) h = h
+checkpoint_accepted program report thread count file bytes (Err refusal.Memory) h = tt
+checkpoint_accepted program report thread count file bytes (Err r) h = absurd h
+
+-- ---- what the table says of a checkpoint that is read
+
+same_block : (a b : Block) → ◌≡◌ {A = Option Block} (Some a) (Some b) → a ≡ b
+same_block a b e = cc
+
+pub index_said : (f : Block → ℕ) (blocks : List Block) (k : ℕ) (b : Block) → slice_get blocks k ≡ Some b → slice_index (map f blocks) k ≡ f b
+index_said f [] k b e = cc
+index_said f (x ∷ xs) zero b e = ap f (same_block x b e)
+index_said f (x ∷ xs) (suc k) b e = index_said f xs k b e
+
+both : (a b : Bool) → (a && b) ≡ true → a ≡ true
+both true b e = refl
+both false b e = e
+
+module _ (bytes : List ℕ) (it : Report) (s : State) (thread used : ℕ) (h : ReadsCheckpoint bytes it s thread used) where
+  from_thread_on : IsFilled (thread_rows it (from_registers it)) (thread_values thread s.count used s.depth s.turns ++ state_values s)
+  unfolding checkpoint_table first_rows options_rows checkpoint_values first_values option_values number said
+  from_thread_on = h.fields.2.2.2.2.2.2.2.2
+
+  thread_so : nat_lt thread it.options.threads ≡ true
+  unfolding thread_rows thread_values number
+  thread_so = sym (ap (λ n. nat_lt n it.options.threads) (back 4 thread h.widths.thread)) ∙ from_thread_on.1
+
+  count_so : is_count (slice_index (counts it) thread) it.options.budget s.count ≡ true
+  unfolding thread_rows thread_values number
+  count_so =
+      sym (λ i. is_count (slice_index (counts it) (back 4 thread h.widths.thread i)) it.options.budget (back 4 s.count h.widths.count i))
+      ∙ from_thread_on.2.1
+
+  events_so : are_events (slice_index (journals it) thread) used ≡ true
+  unfolding thread_rows thread_values number
+  events_so =
+      sym (λ i. are_events (slice_index (journals it) (back 4 thread h.widths.thread i)) (back 4 used h.widths.events i))
+      ∙ from_thread_on.2.2.1
+
+  pub thread_below : thread < it.options.threads
+  thread_below = let is = thread_so in grind (arith, nat_tests)
+
+  count_below : s.count < slice_index (counts it) thread
+  count_below =
+      let is : nat_lt s.count (slice_index (counts it) thread) ≡ true =
+      both (nat_lt s.count (slice_index (counts it) thread)) (nat_lt s.count it.options.budget) count_so in
+      grind (arith, nat_tests)
+
+  events_within : used ≤ slice_index (journals it) thread
+  events_within =
+      let is : nat_le used (slice_index (journals it) thread) ≡ true =
+      both (nat_le used (slice_index (journals it) thread)) (nat_le used 262144) events_so in
+      grind (arith, nat_tests)
+
+  module _ (block : Block) (stands : slice_get it.blocks thread ≡ Some block) where
+    pub most_counted : s.count ≤ block.count
+    most_counted =
+        let here = count_below in let same = index_said (λ (b : Block). b.count) it.blocks thread block stands in
+        omega (arith, here, same)
+
+    pub used_within : used ≤ length block.journal
+    used_within =
+        let here = events_within in
+        let same = index_said (λ (b : Block). length b.journal) it.blocks thread block stands in
+        omega (arith, here, same)

@@ -1,0 +1,55 @@
+use Rattle.std.proofs.Common.{rules, ◌<◌, length, refl, ◌∙◌, Err}
+use Rattle.sm_types.specs.Options.{numbers_of}
+use Rattle.kernel_contexts.specs.Context.{journal_of, state_of}
+use Rattle.ckpt_file.specs.Checkpoint.{checkpoint}
+use Rattle.report_reader.specs.Told.{report_said}
+use Rattle.smemu.specs.Views.{EndsCheckpoint}
+use Rattle.smemu.proofs.Checkpoints.{checkpoint_short, checkpoint_unmatched}
+use Rattle.smemu.proofs.Debugs.{block_there}
+use Rattle.smemu.proofs.checkpoint.checkpoint_report.Goals as goal
+
+pub returns-in_err-check_match : goal.returns-in_err-check_match
+returns-in_err-check_match c =
+    let ends : EndsCheckpoint c.args.file.now c.args.report.now.bytes.items c.args.thread c.args.count (Err c.in_err-check_match.field-0.0) =
+    checkpoint_unmatched c.args.file.now c.args.report.now.bytes.items c.args.thread c.args.count c.args.image.now
+    (report_said c.args.report.now.content) c.in_err-check_match.field-0.0 c.requires.loads c.requires.reads
+    c.in_err-check_match.ensures.err in
+    search rules
+
+pub returns-then : goal.returns-then
+returns-then c = record {
+  at =
+      block_there c.args.file.now c.args.report.now.bytes.items c.args.thread c.args.image.now c.args.report.now.content
+      c.index-block.result.now c.requires.loads c.requires.reads c.in_ok-check_match.ensures.ok c.requires.cores c.index-block.ensures;
+  late = search rules;
+  is_text = refl;
+}
+
+pub returns-in_err-context : goal.returns-in_err-context
+returns-in_err-context c =
+    let at =
+    block_there c.args.file.now c.args.report.now.bytes.items c.args.thread c.args.image.now c.args.report.now.content
+    c.index-block.result.now c.requires.loads c.requires.reads c.in_ok-check_match.ensures.ok c.requires.cores c.index-block.ensures in
+    let below : c.args.count < at.block.count = search rules in
+    let ends : EndsCheckpoint c.args.file.now c.args.report.now.bytes.items c.args.thread c.args.count (Err c.in_err-context.field-0.0) =
+    checkpoint_short c.args.file.now c.args.report.now.bytes.items c.args.thread c.args.count at c.in_err-context.field-0.0 below
+    c.in_err-context.ensures.short in
+    search rules
+
+pub returns : goal.returns
+returns c =
+    let at =
+    block_there c.args.file.now c.args.report.now.bytes.items c.args.thread c.args.image.now c.args.report.now.content
+    c.index-block.result.now c.requires.loads c.requires.reads c.in_ok-check_match.ensures.ok c.requires.cores c.index-block.ensures in
+    let below : c.args.count < at.block.count = search rules in
+    record {
+      at = at;
+      below = below;
+      state = state_of c.in_ok-context.context;
+      used = length (journal_of c.in_ok-context.context);
+      stands = c.in_ok-context.ensures.stands;
+      is_text =
+          c.in_ok-bytes.ensures
+          ∙ (λ i. checkpoint c.args.report.now.content.image (numbers_of (c.in_ok-context.ensures.config i)) (state_of c.in_ok-context.context)
+          (c.in_ok-context.ensures.number i) (length (journal_of c.in_ok-context.context)));
+    }
