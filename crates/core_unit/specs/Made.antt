@@ -1,4 +1,4 @@
--- The turns of a resident until one needs the bank of another thread.
+-- The turns of a resident until one needs the bank, which its thread does not own.
 use Rattle.std.specs.Prelude.{◌≡◌, ℕ, ◌+◌, ◌<◌, ◌≤◌, ◌++◌, Bool, true, false, List, [], None, length}
 use Rattle.sm_types.specs.declared.shared_op.Event.{Event}
 use Rattle.shared_region.specs.Tickets.{Refusals}

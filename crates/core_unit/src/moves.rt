@@ -9,10 +9,10 @@ ghost use Rattle.core_unit.specs.Owners.{IsTold, freed_by};
 ghost use Rattle.core_unit.specs.Residents.{AreOn, HasSameLengths, RunsHere, held_at};
 ghost use Rattle.core_unit.specs.View.{held_by};
 
-use crate::resident::{Resident, is_owner};
+use crate::resident::Resident;
 use crate::run::CoreRun;
 use crate::turns::{TurnsEnd, make_turns};
-use kernel_contexts::Whole;
+use kernel_contexts::{Whole, is_owned};
 use mem_access::Bank;
 use shared_region::Port;
 
@@ -125,7 +125,7 @@ pub fn take_first<P: Port>(residents: &mut Vec<Resident<P>>, bank: &mut Bank) ->
         mut context,
         ticket,
     } = residents.remove(0);
-    if is_owner(bank, context.thread()) {
+    if is_owned(bank, context.thread()) {
         context.bank_out(bank);
         return Whole { context, ticket };
     }

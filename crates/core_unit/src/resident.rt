@@ -1,9 +1,8 @@
-//! The residents of a core, and which of them owns its bank.
-ghost use Rattle.std.specs.Prelude.{◌≡◌, true, Some};
-ghost use Rattle.kernel_contexts.specs.Context.{thread_of, journal_of, owns};
+//! The residents of a core.
+ghost use Rattle.std.specs.Prelude.{◌≡◌, Some};
+ghost use Rattle.kernel_contexts.specs.Context.{thread_of, journal_of};
 
 use kernel_contexts::Context;
-use mem_access::Bank;
 use shared_region::Port;
 
 /// A context with its ticket. Its vectors and ZA are in its save area, or in the bank of the core.

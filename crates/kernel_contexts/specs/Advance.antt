@@ -75,6 +75,8 @@ pub record AdvancesSeveralOn (most : ℕ) (old : Context) (before : Bank) (new :
       (length (journal_of old)) n (state_on old before) (state_on new after)
   pub few : n ≤ most
   pub owned : KeepsOwned (pages_of old) (pages_of new)
+  pub count : (state_on new after).count ≡ (state_on old before).count + n
+  pub made : (state_on new after).turns ≡ (state_on old before).turns + n
   pub stop : stop_of new ≡ None
   pub on : IsOn new after
   pub bank : IsSameBank before after

@@ -23,6 +23,8 @@ returns-then-is_owned c =
       turns = rw (here, there) so;
       few = e.few;
       owned = e.owned;
+      count = e.count;
+      made = e.made;
       stop = e.stop ∙ c.requires.runs;
       on = record {
         lengths = e.back.fit.lengths;
@@ -56,6 +58,8 @@ returns-else-is_owned c =
           (held_state new made.new.bank) e.turns);
       few = e.few;
       owned = e.owned;
+      count = e.count;
+      made = e.made;
       stop = e.stop ∙ c.requires.runs;
       on = record {
         lengths = search rules;
