@@ -13,7 +13,7 @@ bank_out-requires-clause-away g c =
     let xs = c.args.residents.now.items in
     let some : 0 < length xs = grind (arith, common_steps, c.requires.some) in
     let split = cons_of xs r some c.remove-context.ensures.value in
-    away_of r.context c.args.bank.now (c.requires.on 0 r (first_of xs split.0 r split.1)) (ap (owns c.args.bank.now) (sym c.thread.ensures) ∙ sym c.is_owner.ensures ∙ c.if-is_owner.true)
+    away_of r.context c.args.bank.now (c.requires.on 0 r (first_of xs split.0 r split.1)) (ap (owns c.args.bank.now) (sym c.thread.ensures) ∙ sym c.is_owned.ensures ∙ c.if-is_owned.true)
 
 pub bank_out-requires-clause-on : goal.bank_out-requires-clause-on
 bank_out-requires-clause-on g c =
@@ -23,8 +23,8 @@ bank_out-requires-clause-on g c =
     let split = cons_of xs r some c.remove-context.ensures.value in
     c.requires.on 0 r (first_of xs split.0 r split.1)
 
-pub returns-then-is_owner-clause-taken : goal.returns-then-is_owner-clause-taken
-returns-then-is_owner-clause-taken g c =
+pub returns-then-is_owned-clause-taken : goal.returns-then-is_owned-clause-taken
+returns-then-is_owned-clause-taken g c =
     let r = c.remove-context.result in
     let xs = c.args.residents.now.items in
     let bank = c.args.bank.now in
@@ -34,12 +34,12 @@ returns-then-is_owner-clause-taken g c =
     let guest = guest_home r.context c.bank_out.new.self out.same out.stop out.journal bank out.state in
     gone_held (λ r. r.context) (λ r. r.ticket) bank c.bank_out.new.bank xs split.0 c.remove-context.new.self.items r split.1
     (c.remove-context.ensures.items ∙ ap (λ l. remove l 0) split.1)
-    (is_owned bank.owner (thread_of r.context) (ap (owns c.args.bank.now) (sym c.thread.ensures) ∙ sym c.is_owner.ensures ∙ c.if-is_owner.true)) out.owner
+    (is_owned bank.owner (thread_of r.context) (ap (owns c.args.bank.now) (sym c.thread.ensures) ∙ sym c.is_owned.ensures ∙ c.if-is_owned.true)) out.owner
     (apart_threads (λ r. r.context) (λ r. r.ticket) bank xs c.requires.told.apart) _
     (λ i. record { guest = guest i; ticket = r.ticket })
 
-pub returns-then-is_owner-clause-on : goal.returns-then-is_owner-clause-on
-returns-then-is_owner-clause-on g c =
+pub returns-then-is_owned-clause-on : goal.returns-then-is_owned-clause-on
+returns-then-is_owned-clause-on g c =
     let r = c.remove-context.result in
     let xs = c.args.residents.now.items in
     let bank = c.args.bank.now in
@@ -49,12 +49,12 @@ returns-then-is_owner-clause-on g c =
     let here = c.requires.on 0 r (first_of xs split.0 r split.1) in
     gone_on (λ r. r.context) (λ r. r.ticket) bank c.bank_out.new.bank xs split.0 c.remove-context.new.self.items r split.1
     (c.remove-context.ensures.items ∙ ap (λ l. remove l 0) split.1)
-    (is_owned bank.owner (thread_of r.context) (ap (owns c.args.bank.now) (sym c.thread.ensures) ∙ sym c.is_owner.ensures ∙ c.if-is_owner.true)) out.owner
+    (is_owned bank.owner (thread_of r.context) (ap (owns c.args.bank.now) (sym c.thread.ensures) ∙ sym c.is_owned.ensures ∙ c.if-is_owned.true)) out.owner
     (apart_threads (λ r. r.context) (λ r. r.ticket) bank xs c.requires.told.apart) c.requires.on
     (same_lengths _ _ bank c.bank_out.new.bank refl here.lengths out.lengths)
 
-pub returns-then-is_owner-clause-lengths : goal.returns-then-is_owner-clause-lengths
-returns-then-is_owner-clause-lengths g c =
+pub returns-then-is_owned-clause-lengths : goal.returns-then-is_owned-clause-lengths
+returns-then-is_owned-clause-lengths g c =
     let r = c.remove-context.result in
     let xs = c.args.residents.now.items in
     let some : 0 < length xs = grind (arith, common_steps, c.requires.some) in
@@ -70,7 +70,7 @@ invariant_of-result-2 g c =
     let split = cons_of xs r some c.remove-context.ensures.value in
     record {
       home = home_of r.context c.args.bank.now (c.requires.on 0 r (first_of xs split.0 r split.1))
-          (ap (owns c.args.bank.now) (sym c.thread.ensures) ∙ sym c.is_owner.ensures ∙ c.if-is_owner.false);
+          (ap (owns c.args.bank.now) (sym c.thread.ensures) ∙ sym c.is_owned.ensures ∙ c.if-is_owned.false);
       number = r.number;
       journal = r.journal;
     }
