@@ -1,6 +1,6 @@
 -- What the options that have been read give, and how far the words have been read.
 use Rattle.std.specs.Prelude.{◌≡◌, ℕ, ◌-◌, ◌<◌, ◌≤◌, ◌%◌, true, List, length, Option, Some, None, is_some}
-use Rattle.std.specs.Prelude.{unwrap_or}
+use Rattle.std.specs.Prelude.{Bool, false, unwrap_or}
 use Rattle.std.specs.Option.{ForSome}
 use Rattle.sm_types.specs.declared.numbers.Numbers.{Numbers}
 use Rattle.cmd_words.specs.Forms as forms
@@ -10,6 +10,8 @@ use Rattle.cmd_words.specs.declared.form.Form.{Form}
 use Rattle.cmd_words.specs.declared.given.Given.{Given}
 use Rattle.cmd_words.specs.declared.setting.Setting.{Setting}
 use Rattle.cmd_words.specs.declared.setting.Setting.TheVariants.{Vl, Svl, Slice, Budget, Threads, Cores}
+use Rattle.cmd_words.specs.declared.verb.Verb.{Verb}
+use Rattle.cmd_words.specs.declared.verb.Verb.TheVariants.{Replay, Debug, Ckpt, Resume, AbiCheck}
 
 -- the number of an option, where it is given
 abbrev pub given_of : Given → Setting → Option ℕ
@@ -36,6 +38,15 @@ numbers_given given =
       cores = number_for given Cores;
       kernel = 2;
     }
+
+-- the commands that take up a run by its report, which is their second operand
+abbrev pub reads_report : Verb → Bool
+reads_report Replay = true
+reads_report Debug = true
+reads_report Ckpt = true
+reads_report Resume = true
+reads_report AbiCheck = true
+reads_report other = false
 
 -- what a form of the code says
 abbrev pub form_said : Form → forms.Form

@@ -3,6 +3,7 @@ ghost use Rattle.std.specs.Prelude.{◌≡◌};
 ghost use Rattle.cmd_words.specs.Forms as spec;
 ghost use Rattle.cmd_words.specs.Given.{form_said};
 
+use crate::form::Operand::{Count, Name, Thread, Workload};
 use crate::setting::Setting;
 use crate::verb::Verb;
 
@@ -41,59 +42,30 @@ const RUN_OPTIONS: &[Setting] = &[
 /// The options of a command that runs single instructions.
 const VECTOR_OPTIONS: &[Setting] = &[Setting::Vl, Setting::Svl, Setting::Cores];
 
+impl Form {
+    /// These operands, and then these options.
+    fn of(operands: &'static [Operand], options: &'static [Setting]) -> Form
+        ensures { form_said result ≡ record { operands = operands.now; options = options.now } }
+    {
+        Form { operands, options }
+    }
+}
+
 /// The form of a command.
 pub fn form_of(verb: Verb) -> Form
     ensures { form_said result ≡ spec.form_of verb }
 {
     match verb {
-        Verb::Run => Form {
-            operands: &[Operand::Name],
-            options: RUN_OPTIONS,
-        },
-        Verb::Sim => Form {
-            operands: &[Operand::Name, Operand::Name],
-            options: RUN_OPTIONS,
-        },
-        Verb::Dis | Verb::Asm => Form {
-            operands: &[Operand::Name],
-            options: &[],
-        },
-        Verb::Replay | Verb::AbiCheck => Form {
-            operands: &[Operand::Name, Operand::Name, Operand::Thread],
-            options: &[],
-        },
-        Verb::Debug => Form {
-            operands: &[Operand::Name, Operand::Name, Operand::Thread, Operand::Name],
-            options: &[],
-        },
-        Verb::Ckpt => Form {
-            operands: &[
-                Operand::Name,
-                Operand::Name,
-                Operand::Thread,
-                Operand::Count,
-            ],
-            options: &[],
-        },
-        Verb::Resume => Form {
-            operands: &[Operand::Name, Operand::Name, Operand::Name],
-            options: &[],
-        },
-        Verb::Vectors => Form {
-            operands: &[Operand::Name],
-            options: VECTOR_OPTIONS,
-        },
-        Verb::Gen => Form {
-            operands: &[Operand::Workload],
-            options: &[],
-        },
-        Verb::Bench => Form {
-            operands: &[Operand::Workload],
-            options: &[Setting::Cores],
-        },
-        Verb::Help | Verb::Version => Form {
-            operands: &[],
-            options: &[],
-        },
+        Verb::Run => Form::of(&[Name], RUN_OPTIONS),
+        Verb::Sim => Form::of(&[Name, Name], RUN_OPTIONS),
+        Verb::Dis | Verb::Asm => Form::of(&[Name], &[]),
+        Verb::Replay | Verb::AbiCheck => Form::of(&[Name, Name, Thread], &[]),
+        Verb::Debug => Form::of(&[Name, Name, Thread, Name], &[]),
+        Verb::Ckpt => Form::of(&[Name, Name, Thread, Count], &[]),
+        Verb::Resume => Form::of(&[Name, Name, Name], &[]),
+        Verb::Vectors => Form::of(&[Name], VECTOR_OPTIONS),
+        Verb::Gen => Form::of(&[Workload], &[]),
+        Verb::Bench => Form::of(&[Workload], &[Setting::Cores]),
+        Verb::Help | Verb::Version => Form::of(&[], &[]),
     }
 }

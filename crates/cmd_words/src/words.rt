@@ -9,7 +9,7 @@ ghost use Rattle.cmd_words.specs.Options as options;
 ghost use Rattle.cmd_words.specs.Words as spec;
 ghost use Rattle.cmd_words.specs.Words.{command_of, form_asked, value_fault};
 ghost use Rattle.cmd_words.specs.Command.{request_of, IsInRange, IsFirstFault};
-ghost use Rattle.cmd_words.specs.Given.{given_of, form_said, IsSoundTo, IsReadTo};
+ghost use Rattle.cmd_words.specs.Given.{given_of, form_said, reads_report, IsSoundTo, IsReadTo};
 
 use crate::command::{Command, UsageKind, WordsFault};
 use crate::form::{Form, Operand, form_of};
@@ -247,6 +247,53 @@ fn count_at(words: &[String], place: usize) -> u32
     }
 }
 
+/// The command of words without a fault, where it takes up a run by its report.
+fn report_command(
+    alloc: Global,
+    words: &[String],
+    verb: Verb,
+    given: &Given,
+) -> Result<Command, WordsFault>
+    requires report { reads_report verb ≡ true }
+    requires verb { option_and_then spec.verb_of (slice_get (map string_bytes words.now) 0) ≡ Some verb }
+    requires read { IsReadTo (map string_bytes words.now) (forms.form_of verb) (length words.now) given.now }
+    ensures command { IfOk result (λ command.
+        command_of (map string_bytes words.now) ≡ Some (request_of command)) }
+    ensures in_range { IfOk result IsInRange }
+    ensures fault { IfErr result (λ fault. fault ≡ WordsFault.Memory) }
+{
+    match verb {
+        Verb::Replay => Ok(Command::Replay {
+            program: name_at(alloc, words, 1)?,
+            report: name_at(alloc, words, 2)?,
+            thread: thread_at(words, 3),
+        }),
+        Verb::Debug => Ok(Command::Debug {
+            program: name_at(alloc, words, 1)?,
+            report: name_at(alloc, words, 2)?,
+            thread: thread_at(words, 3),
+            script: name_at(alloc, words, 4)?,
+        }),
+        Verb::Ckpt => Ok(Command::Ckpt {
+            program: name_at(alloc, words, 1)?,
+            report: name_at(alloc, words, 2)?,
+            thread: thread_at(words, 3),
+            count: count_at(words, 4),
+        }),
+        Verb::Resume => Ok(Command::Resume {
+            program: name_at(alloc, words, 1)?,
+            report: name_at(alloc, words, 2)?,
+            checkpoint: name_at(alloc, words, 3)?,
+        }),
+        Verb::AbiCheck => Ok(Command::AbiCheck {
+            program: name_at(alloc, words, 1)?,
+            report: name_at(alloc, words, 2)?,
+            thread: thread_at(words, 3),
+        }),
+        _ => unreachable!(),
+    }
+}
+
 /// The command of words without a fault.
 fn make_command(
     alloc: Global,
@@ -277,33 +324,9 @@ fn make_command(
         Verb::Asm => Ok(Command::Asm {
             source: name_at(alloc, words, 1)?,
         }),
-        Verb::Replay => Ok(Command::Replay {
-            program: name_at(alloc, words, 1)?,
-            report: name_at(alloc, words, 2)?,
-            thread: thread_at(words, 3),
-        }),
-        Verb::Debug => Ok(Command::Debug {
-            program: name_at(alloc, words, 1)?,
-            report: name_at(alloc, words, 2)?,
-            thread: thread_at(words, 3),
-            script: name_at(alloc, words, 4)?,
-        }),
-        Verb::Ckpt => Ok(Command::Ckpt {
-            program: name_at(alloc, words, 1)?,
-            report: name_at(alloc, words, 2)?,
-            thread: thread_at(words, 3),
-            count: count_at(words, 4),
-        }),
-        Verb::Resume => Ok(Command::Resume {
-            program: name_at(alloc, words, 1)?,
-            report: name_at(alloc, words, 2)?,
-            checkpoint: name_at(alloc, words, 3)?,
-        }),
-        Verb::AbiCheck => Ok(Command::AbiCheck {
-            program: name_at(alloc, words, 1)?,
-            report: name_at(alloc, words, 2)?,
-            thread: thread_at(words, 3),
-        }),
+        Verb::Replay | Verb::Debug | Verb::Ckpt | Verb::Resume | Verb::AbiCheck => report_command(
+            alloc, words, verb, given,
+        ),
         Verb::Vectors => Ok(Command::Vectors {
             file: name_at(alloc, words, 1)?,
             config: given.config(),
