@@ -1,13 +1,17 @@
 -- The vectors of a file, and the first of its lines at fault.
 use Rattle.std.proofs.Common.{◌≡◌, ℕ, ◌+◌, ◌<◌, ◌≤◌, Bool, true, false, cond, nat_lt, List, [], ◌∷◌, ◌++◌, length}
-use Rattle.std.proofs.Common.{Option, Some, None, Result, Ok, Err, refl, sym, ap, ◌∙◌, arith, subst, lt-ltb}
-use Rattle.std.specs.Prelude.{nat_le}
+use Rattle.std.proofs.Common.{Option, Some, None, Result, Ok, Err, Vec, Global, map, refl, sym, ap, ◌∙◌, arith, subst, lt-ltb}
+use Rattle.std.specs.Prelude.{nat_le, IfOk}
 use Rattle.std.proofs.lemmas.Bool.{le-ltb, le-leb}
 use Rattle.std.proofs.lemmas.Bool.Decides.{nat_tests}
+use Rattle.std.proofs.lemmas.List.{length-map}
 use Rattle.line_reader.specs.Lines.{lines_of, line_text, words_in}
 use Rattle.line_reader.specs.Numbers.{hex_number}
 use Rattle.sm_types.specs.declared.length.VecLen.{VecLen}
 use Rattle.vector_runner.specs.Field.{Field, Vector}
+use Rattle.vector_runner.specs.Told.{vector_told, AnswersAs}
+use Rattle.vector_runner.specs.declared.vector.Vector as code
+use Rattle.vector_runner.specs.declared.read.VectorFault.{VectorFault}
 use Rattle.vector_runner.specs.Words.{fields_in, no_modes, vector_with, vector_in}
 use Rattle.vector_runner.specs.Grammar.{IsVectorLine, Say, IsFileOf, Fault, TooLong, Line, IsAtFault, Silent, Past, IsFirstAtFault, IsFaultOf}
 use Rattle.vector_runner.specs.Grammar.{line_said, onto_others, lines_said, vectors_in}
@@ -96,6 +100,16 @@ module _ (vl svl : VecLen) where
       (λ v vectors here others.
       let rest = lines_say (before + 1) lines vectors (omega (arith, low)) others in
       ((line_is vl svl line v here, rest.0), omega (arith, rest.1))) few.1
+
+  -- what the code answers of the lines
+  pub answered_few : (lines : List (List ℕ)) (r : Result (Vec code.Vector Global) VectorFault)
+      → AnswersAs (λ vectors. map vector_told vectors.items) (lines_said vl svl 0 lines) r
+      → IfOk r (λ vectors. length vectors.items ≤ 2048)
+  answered_few lines (Ok vectors) h =
+      let said = lines_say 0 lines (map vector_told vectors.items) (omega arith) h in
+      let few = said.1 in
+      omega (arith, few, length-map vectors.items vector_told)
+  answered_few lines (Err it) h = tt
 
   lines_read : (before : ℕ) (lines : List (List ℕ)) (vectors : List Vector) → Say vl svl lines vectors
       → before + length vectors ≤ 2048 → lines_said vl svl before lines ≡ Ok vectors

@@ -1,8 +1,8 @@
 //! The vectors of a file.
-ghost use Rattle.std.specs.Prelude.{◌≡◌, ◌≢◌, ◌<◌, [], true, false, All, IfOk, length, map};
+ghost use Rattle.std.specs.Prelude.{◌≡◌, ◌≢◌, ◌<◌, ◌≤◌, [], true, false, All, IfOk, length, map};
 ghost use Rattle.line_reader.specs.Reading.{next_line};
 ghost use Rattle.line_reader.specs.Told.{left_of};
-ghost use Rattle.vector_runner.specs.Grammar.{IsVector, line_said, lines_said, vectors_in};
+ghost use Rattle.vector_runner.specs.Grammar.{IsVector, line_said, lines_said, most_lines, vectors_in};
 ghost use Rattle.vector_runner.specs.Told.{vector_told, or_line, AnswersAs};
 
 use crate::line::read_line;
@@ -98,6 +98,7 @@ pub fn read_vectors(
     ensures said { AnswersAs (λ vectors. map vector_told vectors.items) (vectors_in vl svl bytes.now)
         result }
     ensures fit { IfOk result (λ vectors. All (IsVector vl svl) (map vector_told vectors.items)) }
+    ensures few { IfOk result (λ vectors. length vectors.items ≤ most_lines) }
 {
     if bytes.len() > MOST_BYTES {
         return Err(VectorFault::TooLong);
