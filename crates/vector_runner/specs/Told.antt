@@ -1,11 +1,13 @@
 -- What the code's own types tell.
-use Rattle.std.specs.Prelude.{◌≡◌, ℕ, ◌+◌, Option, Some, None, map, Result, Ok, Err}
+use Rattle.std.specs.Prelude.{◌≡◌, ℕ, ◌+◌, List, Option, Some, None, map, Result, Ok, Err}
 use Rattle.vector_runner.specs.Field.{Field}
 use Rattle.vector_runner.specs.Field as said
 use Rattle.vector_runner.specs.Grammar.{TooLong, Line}
 use Rattle.vector_runner.specs.Grammar as grammar
 use Rattle.vector_runner.specs.declared.vector.Field as code
 use Rattle.vector_runner.specs.declared.vector.Field.TheVariants as field
+use Rattle.vector_runner.specs.declared.registers.BytesField.{BytesField}
+use Rattle.vector_runner.specs.declared.registers.BytesField.TheVariants as of_bytes
 use Rattle.vector_runner.specs.declared.vector.Vector.{Vector}
 use Rattle.vector_runner.specs.declared.words.Unread.{Unread}
 use Rattle.vector_runner.specs.declared.words.Unread.TheVariants as unread
@@ -25,6 +27,14 @@ field_told (field.P n bytes) = said.P n bytes.items
 field_told (field.Ffr bytes) = said.Ffr bytes.items
 field_told (field.Za n bytes) = said.Za n bytes.items
 field_told (field.M bytes) = said.M bytes.items
+
+-- a field whose value is bytes, of them
+abbrev pub field_with : BytesField → List ℕ → Field
+field_with (of_bytes.Z n) = said.Z n
+field_with (of_bytes.P n) = said.P n
+field_with of_bytes.Ffr = said.Ffr
+field_with (of_bytes.Za n) = said.Za n
+field_with of_bytes.M = said.M
 
 -- what a vector says
 abbrev pub vector_told : Vector → said.Vector

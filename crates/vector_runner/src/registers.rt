@@ -6,13 +6,13 @@ ghost use Rattle.text_lines.specs.Rows as rows;
 ghost use Rattle.vector_runner.specs.Answer as spec;
 ghost use Rattle.vector_runner.specs.Field as said;
 ghost use Rattle.vector_runner.specs.Prepared.{core_in};
-ghost use Rattle.vector_runner.specs.Told.{field_told};
+ghost use Rattle.vector_runner.specs.Told.{field_told, field_with};
 
 use crate::state::{DATA, State};
 use crate::vector::Field;
 use machine_step::Machine;
 use paged_memory::Pages;
-use sm_types::Scalars;
+use sm_types::{Bytes, Scalars};
 use std::alloc::{AllocError, Global};
 use sve_vectors::{Vectors, truths_tell_bytes};
 use za_array::Za;
@@ -106,18 +106,48 @@ fn push_scalars(fields: &mut Vec<Field>, machine: &Machine) -> Result<(), AllocE
     Ok(())
 }
 
-/// Adds a vector, where it is not zero.
-fn push_vector(
+/// A field whose value is bytes.
+#[derive(Clone, Copy)]
+pub enum BytesField {
+    /// A vector register.
+    Z(u8),
+    /// A predicate register.
+    P(u8),
+    /// The first fault register.
+    Ffr,
+    /// A vector of ZA.
+    Za(u8),
+    /// The data.
+    M,
+}
+
+impl BytesField {
+    /// The field with these bytes.
+    fn with(self, bytes: Bytes) -> Field
+        ensures { field_told result ≡ field_with self bytes.items }
+    {
+        match self {
+            BytesField::Z(n) => Field::Z(n, bytes),
+            BytesField::P(n) => Field::P(n, bytes),
+            BytesField::Ffr => Field::Ffr(bytes),
+            BytesField::Za(n) => Field::Za(n, bytes),
+            BytesField::M => Field::M(bytes),
+        }
+    }
+}
+
+/// Adds a field, where its bytes are not all zero.
+fn push_bytes(
     alloc: Global,
     fields: &mut Vec<Field>,
-    n: u8,
+    field: BytesField,
     bytes: &[u8],
 ) -> Result<(), AllocError>
     ensures { OnOk result (map field_told fields.new.items
-        ≡ map field_told fields.old.items ++ spec.bytes_field (said.Z n) bytes.now) }
+        ≡ map field_told fields.old.items ++ spec.bytes_field (field_with field) bytes.now) }
 {
     if !are_zero(bytes) {
-        fields.push(Field::Z(n, Vec::from_slice(alloc, bytes)?))?;
+        fields.push(field.with(Vec::from_slice(alloc, bytes)?))?;
     }
     Ok(())
 }
@@ -129,23 +159,7 @@ fn push_z(alloc: Global, fields: &mut Vec<Field>, vectors: &Vectors) -> Result<(
 {
     let _length = vectors.length();
     for n in 0..32u8 {
-        push_vector(alloc, fields, n, vectors.z(n))?;
-    }
-    Ok(())
-}
-
-/// Adds a predicate, where it is not zero.
-fn push_predicate(
-    alloc: Global,
-    fields: &mut Vec<Field>,
-    n: u8,
-    bytes: &[u8],
-) -> Result<(), AllocError>
-    ensures { OnOk result (map field_told fields.new.items
-        ≡ map field_told fields.old.items ++ spec.bytes_field (said.P n) bytes.now) }
-{
-    if !are_zero(bytes) {
-        fields.push(Field::P(n, Vec::from_slice(alloc, bytes)?))?;
+        push_bytes(alloc, fields, BytesField::Z(n), vectors.z(n))?;
     }
     Ok(())
 }
@@ -159,18 +173,7 @@ fn push_p(alloc: Global, fields: &mut Vec<Field>, vectors: &Vectors) -> Result<(
     for n in 0..16u8 {
         let bytes = vectors.p(n);
         truths_tell_bytes(bytes);
-        push_predicate(alloc, fields, n, bytes)?;
-    }
-    Ok(())
-}
-
-/// Adds FFR, where it is not zero.
-fn push_first_fault(alloc: Global, fields: &mut Vec<Field>, bytes: &[u8]) -> Result<(), AllocError>
-    ensures { OnOk result (map field_told fields.new.items
-        ≡ map field_told fields.old.items ++ spec.bytes_field said.Ffr bytes.now) }
-{
-    if !are_zero(bytes) {
-        fields.push(Field::Ffr(Vec::from_slice(alloc, bytes)?))?;
+        push_bytes(alloc, fields, BytesField::P(n), bytes)?;
     }
     Ok(())
 }
@@ -182,23 +185,7 @@ fn push_ffr(alloc: Global, fields: &mut Vec<Field>, vectors: &Vectors) -> Result
 {
     let bytes = vectors.ffr();
     truths_tell_bytes(bytes);
-    push_first_fault(alloc, fields, bytes)
-}
-
-/// Adds a vector of ZA, where it is not zero.
-fn push_array_vector(
-    alloc: Global,
-    fields: &mut Vec<Field>,
-    n: u8,
-    bytes: &[u8],
-) -> Result<(), AllocError>
-    ensures { OnOk result (map field_told fields.new.items
-        ≡ map field_told fields.old.items ++ spec.bytes_field (said.Za n) bytes.now) }
-{
-    if !are_zero(bytes) {
-        fields.push(Field::Za(n, Vec::from_slice(alloc, bytes)?))?;
-    }
-    Ok(())
+    push_bytes(alloc, fields, BytesField::Ffr, bytes)
 }
 
 /// Adds the vectors of ZA.
@@ -207,18 +194,7 @@ fn push_za(alloc: Global, fields: &mut Vec<Field>, za: &Za) -> Result<(), AllocE
         ++ spec.bytes_fields said.Za za.now.vectors) }
 {
     for n in 0..za.size() {
-        push_array_vector(alloc, fields, n as u8, za.vector(n))?;
-    }
-    Ok(())
-}
-
-/// Adds the bytes of the data, where it is not zero.
-fn push_bytes(alloc: Global, fields: &mut Vec<Field>, bytes: &[u8]) -> Result<(), AllocError>
-    ensures { OnOk result (map field_told fields.new.items
-        ≡ map field_told fields.old.items ++ spec.bytes_field said.M bytes.now) }
-{
-    if !are_zero(bytes) {
-        fields.push(Field::M(Vec::from_slice(alloc, bytes)?))?;
+        push_bytes(alloc, fields, BytesField::Za(n as u8), za.vector(n))?;
     }
     Ok(())
 }
@@ -230,7 +206,7 @@ fn push_data(alloc: Global, fields: &mut Vec<Field>, pages: &Pages) -> Result<()
         ++ spec.bytes_field said.M (spec.data_in pages.now.memory)) }
 {
     match pages.bytes_within(DATA, 4096) {
-        Some(data) => push_bytes(alloc, fields, up_to_last(data)),
+        Some(data) => push_bytes(alloc, fields, BytesField::M, up_to_last(data)),
         None => Ok(()),
     }
 }

@@ -21,7 +21,7 @@ loop-n-preserved c =
     let there : n < length ps = omega (arith, c.length-length.ensures.registers.predicate_count) in
     let bytes : c.p-bytes.result.now ≡ get_or xs n [] =
     sym (get_or-map predicate_bytes ps n [] [] there ∙ ap predicate_bytes (sym c.p-bytes.ensures.value) ∙ c.truths_tell_bytes.ensures) in
-    let added = c.in_ok-push_predicate.ensures ∙ ap (λ b. before ++ bytes_field (P n) b) bytes in
+    let added = c.in_ok-push_bytes.ensures ∙ ap (λ b. before ++ bytes_field (P n) b) bytes in
     ap (λ l. l ++ numbered_fields row (n + 1) (drop (n + 1) xs)) added
     ∙ numbered_more row xs n [] before _ inside c.loop-n.invariant
 

@@ -15,7 +15,7 @@ loop-n-preserved c =
     let n = c.loop-n.n in
     let before = map field_told c.loop-n.fields.items in
     let inside : n < length xs = omega (arith, c.length-length.ensures.registers.vector_count) in
-    let added = c.in_ok-push_vector.ensures ∙ ap (λ b. before ++ bytes_field (Z n) b) c.z.ensures.value in
+    let added = c.in_ok-push_bytes.ensures ∙ ap (λ b. before ++ bytes_field (Z n) b) c.z.ensures.value in
     ap (λ l. l ++ numbered_fields row (n + 1) (drop (n + 1) xs)) added
     ∙ numbered_more row xs n [] before _ inside c.loop-n.invariant
 

@@ -15,7 +15,7 @@ loop-n-preserved c =
     let n = c.loop-n.n in
     let before = map field_told c.loop-n.fields.items in
     let inside : n < length xs = omega (arith, c.size-n-end.ensures.square.count, c.size-n-end.ensures.value) in
-    let added = c.in_ok-push_array_vector.ensures ∙ ap (λ b. before ++ bytes_field (Za n) b) c.vector.ensures.value in
+    let added = c.in_ok-push_bytes.ensures ∙ ap (λ b. before ++ bytes_field (Za n) b) c.vector.ensures.value in
     ap (λ l. l ++ numbered_fields row (n + 1) (drop (n + 1) xs)) added
     ∙ numbered_more row xs n [] before _ inside c.loop-n.invariant
 
