@@ -18,10 +18,7 @@ pub enum CheckpointFault {
 
 /// Writes the line for which a checkpoint is refused.
 #[tactic(auto, unfolding(crate::specs::CheckpointLines::checkpoint_line))]
-pub fn write_checkpoint_fault<K: Sink>(
-    out: &mut K,
-    fault: CheckpointFault,
-) -> Result<(), PutFault>
+pub fn write_checkpoint_fault<K: Sink>(out: &mut K, fault: CheckpointFault) -> Result<(), PutFault>
     ensures { Writes (K.view out.old) (K.view out.new) result (checkpoint_line fault) }
 {
     match fault {
