@@ -6,6 +6,7 @@ use Rattle.sm_types.specs.declared.config.Config.{Config}
 use Rattle.sm_types.specs.declared.shared_op.Event.{Event}
 use Rattle.shared_region.specs.Ports.{ReplayEvents}
 use Rattle.paged_memory.specs.Image.{Program}
+use Rattle.sve_vectors.specs.Lengths.{vector_bytes}
 use Rattle.kernel_contexts.specs.State.{State}
 use Rattle.kernel_contexts.specs.Several.{GoesBy}
 use Rattle.kernel_contexts.specs.Run.{At, reach}
@@ -18,6 +19,7 @@ use Rattle.lone_runner.proofs.Several.{way_goes_on, gone_at, not_passed, up_to_c
 use Rattle.abi_checker.specs.Marks.{word_in}
 use Rattle.abi_checker.specs.Straight.{KeepsCode}
 use Rattle.abi_checker.specs.Checked.{states_of}
+use Rattle.abi_checker.specs.Whole.{IsWholeWith, IsWholeAt}
 use Rattle.abi_checker.specs.Watching.{IsWatched, IsPast}
 use Rattle.abi_checker.specs.Following.{GoesFar, IsFollowed, IsFollowedBySome, IsSomewhereWith, IsUnderWay}
 use Rattle.abi_checker.specs.Planning.{IsPlanned, IsOfBlock, IsOfOne}
@@ -27,6 +29,7 @@ use Rattle.abi_checker.specs.declared.blocks.Next.{Next}
 use Rattle.abi_checker.specs.declared.watch.Watch.{Watch}
 use Rattle.abi_checker.proofs.Executed.{either_turn}
 use Rattle.abi_checker.proofs.Followed.{now_state, past_counted}
+use Rattle.abi_checker.proofs.WholeStates.{whole_at}
 use Rattle.abi_checker.proofs.Quiet.{AreCounted, are_counted, run_after, no_call, code_each, watched_each}
 
 -- a fault that was told is told later
@@ -94,8 +97,12 @@ module _ (program : Program) (config : Config) (thread : ℕ) (journal : List Ev
   module _ (mid : Watch) (next : Next) (w : IsWatched run here mid) (planned : IsPlanned mid.near (run here) next)
       (few : n ≤ next.most) (later : Watch) (told : Option Abi)
       (tells : (run : ℕ → State) (m : ℕ) → IsUnderWay run m mid None → run (suc m) ≡ state_of new → IsPast (run m) (run (suc m)) next.call
-      → (run m).count ≤ (run (suc m)).count → (next.keeps ≡ true → KeepsCode (run m).core.memory (run (suc m)).core.memory)
-      → IsUnderWay run (suc m) later told) where
+      → (run m).count ≤ (run (suc m)).count → IsWholeAt run (suc m)
+      → (next.keeps ≡ true → KeepsCode (run m).core.memory (run (suc m)).core.memory) → IsUnderWay run (suc m) later told)
+      (own : config_of new ≡ config) (whole : IsWholeWith (vector_bytes (config_of new).svl) (state_of new).core) where
+    last_whole : IsWholeAt run (here + n)
+    last_whole = whole_at program config thread journal (here + n) (state_of new) (config_of new) after own whole
+
     last_told : (k : ℕ) → n ≡ suc k → IsWatched run (here + k) mid → IsPast (run (here + k)) (run (here + suc k)) next.call
         → (next.keeps ≡ true → KeepsCode (run (here + k)).core.memory (run (here + suc k)).core.memory)
         → IsUnderWay run (here + n) later told
@@ -107,6 +114,7 @@ module _ (program : Program) (config : Config) (thread : ℕ) (journal : List Ev
         (tells run (here + k) watched (ap run (sym all) ∙ after)
         (subst (λ i. IsPast (run (here + k)) (run i) next.call) more past)
         (subst (λ i. (run (here + k)).count ≤ (run i).count) more (omega (arith, grows)))
+        (subst (λ i. IsWholeAt run i) all last_whole)
         (λ t. subst (λ i. KeepsCode (run (here + k)).core.memory (run i).core.memory) more (code t)))
 
     block_told : (k : ℕ) → n ≡ suc k → IsOfBlock mid.near (run here) next → IsUnderWay run (here + n) later told
@@ -241,9 +249,9 @@ module _ (program : Program) (config : Config) (thread : ℕ) (journal : List Ev
   module _ (planned : (run : ℕ → State) (m : ℕ) → IsWatched run m watch → run m ≡ state_of old → IsPlanned mid.near (run m) next)
       (later : Watch) (found : Option Abi)
       (tells : (run : ℕ → State) (m : ℕ) → IsUnderWay run m mid None → run (suc m) ≡ state_of new
-      → IsPast (run m) (run (suc m)) next.call → (run m).count ≤ (run (suc m)).count
+      → IsPast (run m) (run (suc m)) next.call → (run m).count ≤ (run (suc m)).count → IsWholeAt run (suc m)
       → (next.keeps ≡ true → KeepsCode (run m).core.memory (run (suc m)).core.memory) → IsUnderWay run (suc m) later found)
-      (some : n ≡ 0 → ⊥) where
+      (whole : IsWholeWith (vector_bytes (config_of new).svl) (state_of new).core) (some : n ≡ 0 → ⊥) where
     pub round_followed : IsFollowed program config thread journal count new ticket later found
     round_followed =
         followed_over program config thread journal count old ticket same is watch None h new n e.turns e.count e.journal most_count
@@ -252,7 +260,7 @@ module _ (program : Program) (config : Config) (thread : ℕ) (journal : List Ev
         next watched_here
         (planned (states_of program config thread journal) h.way.turns h.told
         (now_state program config thread journal count old ticket same is watch None h))
-        (within_most n least next.most (count - told) e.few few) later found tells some)
+        (within_most n least next.most (count - told) e.few few) later found tells (e.same.config ∙ same) whole some)
 
     pub round_quiet : is_some found ≡ false → IsFollowed program config thread journal count new ticket later None
     round_quiet quiet =

@@ -180,7 +180,7 @@ module _ {O I : Type 0} (t : Table O I) (word : ℕ) (P : I → Type 0) (safe : 
   one_some : (x y : I) → Some x ≡ Some y → P x → P y
   one_some x y e h = subst P (ap (λ o. unwrap_or o x) e) h
 
-  all_mean : (lines : List (Line O)) → list_all safe lines ≡ true → (it : I) → meaning_in t lines word ≡ Some it → P it
+  pub all_mean : (lines : List (Line O)) → list_all safe lines ≡ true → (it : I) → meaning_in t lines word ≡ Some it → P it
   unfolding meaning_in stands_for
   all_mean [] e it h = cc
   all_mean (line ∷ lines) e it h =
@@ -287,7 +287,7 @@ jumps_vector : list_all jump_vector VECTOR_LINES ≡ true
 unfolding jump_vector differ
 jumps_vector = refl
 
-by_either : (first second : Option Insn) (it : Insn) → option_or first second ≡ Some it → (first ≡ Some it) ⊎ (second ≡ Some it)
+pub by_either : (first second : Option Insn) (it : Insn) → option_or first second ≡ Some it → (first ≡ Some it) ⊎ (second ≡ Some it)
 by_either None second it e = inr e
 by_either (Some x) second it e = inl e
 

@@ -10,6 +10,7 @@ use Rattle.sm_types.specs.declared.stop.Stop.{Stop}
 use Rattle.shared_region.specs.Ports.{ReplayEvents}
 use Rattle.paged_memory.specs.Image.{Program}
 use Rattle.paged_memory.specs.Memory.{AddressSpace}
+use Rattle.sve_vectors.specs.Lengths.{vector_bytes}
 use Rattle.kernel_contexts.specs.State.{State, start_state}
 use Rattle.kernel_contexts.specs.Run.{At, Ended, reach}
 use Rattle.kernel_contexts.specs.Context.{state_of, config_of, image_of, thread_of, journal_of}
@@ -24,12 +25,14 @@ use Rattle.abi_checker.specs.Marks.{is_call_word}
 use Rattle.abi_checker.specs.Faults.{HasFault}
 use Rattle.abi_checker.specs.Checked.{IsChecked, IsTold, states_of}
 use Rattle.abi_checker.specs.Straight.{AreBlocks, KeepsCode}
+use Rattle.abi_checker.specs.Whole.{IsWholeWith, IsWholeAt}
 use Rattle.abi_checker.specs.Watching.{IsWatched, IsNextCall, IsNoCall, IsPast}
 use Rattle.abi_checker.specs.Following.{IsFollowed, IsUnderWay, IsSomewhereWith}
 use Rattle.abi_checker.specs.declared.abi.Abi.{Abi}
 use Rattle.abi_checker.specs.declared.abi.AbiKind.{AbiKind}
 use Rattle.abi_checker.specs.declared.abi.AbiKind.TheVariants.{NotDormant, NotLawful, TooDeep}
 use Rattle.abi_checker.specs.declared.watch.Watch.{Watch}
+use Rattle.abi_checker.proofs.WholeStates.{whole_first, whole_at}
 
 -- ---- the start
 
@@ -46,6 +49,7 @@ watched_first run watch e z known =
       none = λ m kind within.
           let zero : m ≡ 0 = omega (arith, within) in subst (λ i. ¬ HasFault run i kind) (sym zero) (none_first run kind);
       lawful = λ c m p within r. let after = r.after in absurd (omega (arith, within, after));
+      whole = whole_first run;
       walked = inr (inr ((λ p h. h), (e, z)));
       few = omega (arith, short);
       counted = omega (arith, short, z);
@@ -147,13 +151,17 @@ module _ (program : Program) (config : Config) (thread : ℕ) (journal : List Ev
       (told : Option Abi) → next_place old before ≡ place_of new after stop
       → IfSome call (λ past. IsNextCall (state_of old) past) → IfNone call (IsNoCall (state_of old))
       → first ≡ (state_of old).count → now ≡ (state_of new).count → past ≡ cond (nat_lt first now) call None
+      → config_of new ≡ config_of old → IsWholeWith (vector_bytes (config_of new).svl) (state_of new).core
       → ((run : ℕ → State) (n : ℕ) → IsUnderWay run n watch found → run (suc n) ≡ state_of new
-      → IsPast (run n) (run (suc n)) past → (run n).count ≤ (run (suc n)).count
+      → IsPast (run n) (run (suc n)) past → (run n).count ≤ (run (suc n)).count → IsWholeAt run (suc n)
       → (false ≡ true → KeepsCode (run n).core.memory (run (suc n)).core.memory) → IsUnderWay run (suc n) later told)
       → IsUnderWay run (suc here) later told
-  told_on new after stop call past first now later told e some none f g p tells =
+  told_on new after stop call past first now later told e some none f g p config_is whole tells =
       tells run here h.told (next_state new after stop e) (past_here new after stop call past first now e some none f g p)
-      next_counts.least (λ no. cc)
+      next_counts.least
+      (whole_at program config thread journal (suc here) (state_of new) (config_of new) (next_state new after stop e)
+      (config_is ∙ same) whole)
+      (λ no. cc)
 
   pub checked : (new : Context) (after : ReplayEvents) (stop : Stop) (abi : Abi)
       → next_place old before ≡ place_of new after (Some stop)

@@ -5,6 +5,7 @@ pub mod Listed
 pub mod Once
 pub mod OneMark
 pub mod Walk
+pub mod WholeStates
 pub mod Next
 pub mod Followed
 pub mod Went
@@ -18,3 +19,5 @@ pub mod Executed
 pub mod Staying
 pub mod Quiet
 pub mod AtOnce
+pub mod Brought
+pub mod CallWords

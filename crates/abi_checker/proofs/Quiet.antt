@@ -24,7 +24,7 @@ use Rattle.abi_checker.proofs.Words.{word_any}
 use Rattle.abi_checker.proofs.Executed.{plain_turn, either_turn}
 use Rattle.abi_checker.proofs.Staying.{code_stays, code_on, block_stays, blocks_stay}
 use Rattle.abi_checker.proofs.Settled.{none_settles}
-use Rattle.abi_checker.proofs.Went.{went_uncalled}
+use Rattle.abi_checker.proofs.Went.{went_uncalled, none_back}
 
 -- ---- the turns
 
@@ -177,6 +177,7 @@ module _ (config : Config) (thread events : ℕ) (run : ℕ → State) (here n :
       (blocks_stay watch.near (run (here + j)).core.memory (run (here + suc j)).core.memory watch.blocks.known (code_each j here_less) w.known)
       watch
       (none_settles (run (here + suc j)) watch w.near away)
+      (λ call p r. absurd (none_back run (here + j) watch w (ap (λ (t : State). is_near watch.near t.core.scalars.pc) (ap run (sym more)) ∙ away) call p r))
       (subst (λ (t : State). ¬ IsCall (run (here + j)) t) (ap run more) (no_call j here_less)))
 
   pub watched_each : IsWatched run here watch → (j : ℕ) → j < n → IsWatched run (here + j) watch

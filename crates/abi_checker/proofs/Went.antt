@@ -1,20 +1,23 @@
 -- What the code's parts of a state come to.
 use Rattle.std.proofs.Common.{inl, inr, ◌≡◌, ℕ, suc, ◌+◌, ◌<◌, ◌≤◌, ◌++◌, List, [], ◌∷◌, length, filter, refl, ap, sym, ◌∙◌, arith, subst}
-use Rattle.std.proofs.Common.{Option, Some, None}
+use Rattle.std.proofs.Common.{Option, Some, None, Bool, true, false}
 use Rattle.std.proofs.Common.{get_or, Vec, Global}
 use Rattle.std.specs.Prelude.{not, Result, Ok, Err, IfOk}
 use Rattle.std.specs.List.{All, Contains}
 use Rattle.std.proofs.lemmas.List.{length_push}
+use Rattle.std.proofs.lemmas.List.Elements.{All-contains}
 use Rattle.std.proofs.lemmas.List.Filters.{length-filter_both}
 use Rattle.paged_memory.specs.Memory.{AddressSpace}
 use Rattle.kernel_contexts.specs.State.{State}
 use Rattle.lazy_saving.specs.Dormant.{Places, IsDormantAt}
 use Rattle.za_routines.specs.Places.{places_of}
-use Rattle.abi_checker.specs.Faults.{IsMarkedAt, block_of}
+use Rattle.abi_checker.specs.Faults.{IsMarkedAt, IsReturn, IsOpen, block_of}
+use Rattle.abi_checker.specs.Whole.{IsWholeAt}
 use Rattle.abi_checker.specs.Keeping.{IsKept}
 use Rattle.abi_checker.specs.Returning.{is_back, IsOfSome, IsFine, IsUnlawful}
 use Rattle.abi_checker.specs.Watching.{IsWatched, IsWalked, IsMarkedPast, IsPast, IsAdded, AfterCall, IsToldNext}
 use Rattle.abi_checker.specs.Watching.{AreNear, Settles}
+use Rattle.abi_checker.specs.Near.{is_near}
 use Rattle.abi_checker.specs.Straight.{AreBlocks}
 use Rattle.abi_checker.specs.declared.abi.AbiKind.{AbiKind}
 use Rattle.abi_checker.specs.declared.abi.AbiKind.TheVariants.{NotDormant, NotLawful, TooDeep}
@@ -23,7 +26,8 @@ use Rattle.abi_checker.specs.declared.watch.Watch.{Watch}
 use Rattle.abi_checker.proofs.Next.{unlawful_first, lawful_on, no_more, none_unmarked, walked_unmarked, none_added, walked_added}
 use Rattle.abi_checker.proofs.Next.{undormant_first, deep_first}
 use Rattle.abi_checker.proofs.Settled.{same_at}
-use Rattle.abi_checker.proofs.Walk.{of_list}
+use Rattle.abi_checker.proofs.Walk.{of_list, in_list, one_place}
+use Rattle.abi_checker.proofs.WholeStates.{whole_on}
 
 module _ (run : ℕ → State) (n : ℕ) (old : Watch) (s : State) (w : IsWatched run n old) (e : run (suc n) ≡ s)
     (grows : (run n).count ≤ (run (suc n)).count) (known : AreBlocks old.near s.core.memory old.blocks.known) where
@@ -33,7 +37,8 @@ module _ (run : ℕ → State) (n : ℕ) (old : Watch) (s : State) (w : IsWatche
       unlawful_first run n old.calls.items old.returned w.none w.walked found.0 found.1
       (subst (λ t. IsUnlawful t found.0) (sym e) found.2)
 
-  module _ (mid : Watch) (settled : Settles s old mid) where
+  module _ (mid : Watch) (settled : Settles s old mid)
+      (back : (c : ℕ) (p : Places) → IsReturn run p c (suc n) → IsWholeAt run (suc n)) where
     here : All (IsFine (run (suc n))) old.calls.items
     here = subst (λ t. All (IsFine t) old.calls.items) (sym e) settled.fine
 
@@ -59,6 +64,7 @@ module _ (run : ℕ → State) (n : ℕ) (old : Watch) (s : State) (w : IsWatche
           none = none_unmarked run n old.calls.items old.returned w.none w.walked here mid.calls.items mid.returned gone all
               unmarked;
           lawful = lawful_on run n old.calls.items old.returned w.none w.walked here w.lawful;
+          whole = whole_on run n w.whole (λ p marked. absurd (unmarked p marked)) back;
           walked = subst (λ (l : List OpenCall). IsWalked run (suc n) (suc (suc n)) l new.returned) (sym same)
               (subst (λ i. IsWalked run (suc n) (suc (suc n)) mid.calls.items i) (sym told)
               (walked_unmarked run n old.calls.items old.returned w.none w.walked here mid.calls.items mid.returned gone all
@@ -72,7 +78,7 @@ module _ (run : ℕ → State) (n : ℕ) (old : Watch) (s : State) (w : IsWatche
     pub went_uncalled : IsPast (run n) (run (suc n)) None → IsToldNext run (suc n) None mid
     went_uncalled apart = unmarked_watched mid refl refl settled.near (settled.known s.core.memory known) (λ p h. apart h.call)
 
-    module _ (past : ℕ) (new : Watch) (call : IsPast (run n) (run (suc n)) (Some past))
+    module _ (past : ℕ) (new : Watch) (call : IsPast (run n) (run (suc n)) (Some past)) (whole : IsWholeAt run (suc n))
         (near : AreNear new.near new.calls.items)
         (blocks : (m : AddressSpace) → AreBlocks mid.near m mid.blocks.known → AreBlocks new.near m new.blocks.known) where
       blocks_now : AreBlocks new.near s.core.memory new.blocks.known
@@ -102,6 +108,7 @@ module _ (run : ℕ → State) (n : ℕ) (old : Watch) (s : State) (w : IsWatche
             none = none_added run n old.calls.items old.returned w.none w.walked here mid.calls.items mid.returned gone all h.last
                 marked kept few;
             lawful = lawful_on run n old.calls.items old.returned w.none w.walked here w.lawful;
+            whole = whole_on run n w.whole (λ p marked. whole) back;
             walked = subst (λ (l : List OpenCall). IsWalked run (suc n) (suc (suc n)) l new.returned) (sym h.calls)
                 (subst (λ i. IsWalked run (suc n) (suc (suc n)) (mid.calls.items ++ h.last ∷ []) i) (sym told)
                 (walked_added run n old.calls.items old.returned w.none w.walked here mid.calls.items mid.returned gone all h.last
@@ -160,6 +167,7 @@ same_watched run n old new w calls returned near known =
     record {
       none = w.none;
       lawful = w.lawful;
+      whole = w.whole;
       walked = subst (λ (l : List OpenCall). IsWalked run n (suc n) l new.returned) (sym items)
           (subst (λ i. IsWalked run n (suc n) old.calls.items i) (sym returned) w.walked);
       few = omega (arith, few, long);
@@ -168,3 +176,23 @@ same_watched run n old new w calls returned near known =
           (subst (λ l. AreNear l old.calls.items) (sym near) w.near);
       known = known;
     }
+
+-- ---- a state to which no call comes back
+
+both_near : (b : Bool) → b ≡ true → b ≡ false → ⊥
+both_near b e f = let no : true ≡ false = sym e ∙ f in cc
+
+pub none_back : (run : ℕ → State) (n : ℕ) (watch : Watch) → IsWatched run n watch
+    → is_near watch.near (run (suc n)).core.scalars.pc ≡ false → (c : ℕ) (p : Places) → ¬ IsReturn run p c (suc n)
+none_back run n watch w away c p r =
+    let still : IsOpen run n c = record {
+      places = p;
+      marked = r.marked;
+      never = λ m after by. r.first m after (omega (arith, by));
+    } in
+    let found = in_list run n (suc n) watch.calls.items watch.returned c w.walked r.after still in
+    let same = one_place run c (places_of found.0.places) p found.2.marked r.marked in
+    let near =
+    All-contains (λ (call : OpenCall). is_near watch.near call.places.tail ≡ true) watch.calls.items found.0 w.near found.1 in
+    let there = subst (λ (q : Places). is_near watch.near q.tail ≡ true) same near in
+    both_near (is_near watch.near (run (suc n)).core.scalars.pc) (ap (λ a. is_near watch.near a) r.back.pc ∙ there) away

@@ -9,6 +9,7 @@ use Rattle.kernel_contexts.specs.Run.{At, Ended, reach}
 use Rattle.lone_runner.specs.Parting.{state_at}
 use Rattle.abi_checker.specs.Numbers.{NumberOf}
 use Rattle.abi_checker.specs.Faults.{HasFault, HasReturned, IsOpen, IsFirstFault, AreLawful}
+use Rattle.abi_checker.specs.Whole.{AreWhole}
 use Rattle.abi_checker.specs.declared.abi.Abi.{Abi}
 use Rattle.abi_checker.specs.declared.abi.Abi.TheVariants.{Yes, No}
 use Rattle.abi_checker.specs.declared.abi.AbiKind.{AbiKind}
@@ -17,11 +18,12 @@ use Rattle.abi_checker.specs.declared.abi.AbiKind.{AbiKind}
 abbrev pub states_of : Program → Config → ℕ → List Event → ℕ → State
 states_of program config thread journal turns = state_at (reach program config thread journal turns)
 
--- no state up to state n has a fault, each return by then is from a lawful callee, and of the marked calls so
--- many have returned by it, and so many have not
+-- no state up to state n has a fault, each return by then is from a lawful callee, the states of calls and
+-- returns are whole, and of the marked calls so many have returned by it, and so many have not
 pub record IsFaultless (run : ℕ → State) (n calls unreturned : ℕ) : Type 0 where
   pub none : (m : ℕ) (kind : AbiKind) → m ≤ n → ¬ HasFault run m kind
   pub lawful : AreLawful run n
+  pub whole : AreWhole run n
   pub back : NumberOf (HasReturned run n) (suc n) calls
   pub out : NumberOf (IsOpen run n) (suc n) unreturned
 

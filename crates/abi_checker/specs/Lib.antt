@@ -1,7 +1,9 @@
 pub mod Marks
 pub mod Numbers
 pub mod Faults
+pub mod Whole
 pub mod Checked
+pub mod Brought
 pub mod Keeping
 pub mod Returning
 pub mod Near

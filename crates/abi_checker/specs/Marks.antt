@@ -2,12 +2,15 @@
 -- that it goes with.
 -- Source: DDI 0487, BL and BLR, B1 (the program's order); AAPCS64, the ZA lazy saving scheme. The words are
 -- this project's own.
-use Rattle.std.specs.Prelude.{◌≡◌, ℕ, ℤ, suc, ◌+◌, ◌/◌, ◌%◌, ◌-◌, ◌^◌, ◌==◌, ◌&&◌, ◌||◌, Bool, true, List}
+use Rattle.std.specs.Prelude.{◌≡◌, ℕ, ℤ, suc, ◌+◌, ◌/◌, ◌%◌, ◌-◌, ◌^◌, ◌==◌, ◌&&◌, ◌||◌, Bool, true, false, List}
 use Rattle.std.specs.Prelude.{Option, Some, option_map, slice_get}
 use Rattle.sm_types.specs.Bytes.{little_number}
 use Rattle.sm_types.specs.Routines.{tail_words, restore_words, disable_words}
+use Rattle.sm_types.specs.declared.insn.Insn.{Insn}
 use Rattle.sm_types.specs.declared.insn.Insn.TheVariants as insn
 use Rattle.sm_types.specs.declared.insn.Branch.TheVariants as branch
+use Rattle.sm_types.specs.declared.insn.BranchRegisterOp.{BranchRegisterOp}
+use Rattle.sm_types.specs.declared.insn.BranchRegisterOp.TheVariants.{Br, Blr, Ret}
 use Rattle.a64_encode.specs.Either.{instruction_of}
 use Rattle.scalar_exec.specs.Branches.{branch_target}
 use Rattle.paged_memory.specs.Memory.{AddressSpace, bytes_with, word_at}
@@ -21,6 +24,17 @@ use Rattle.lazy_saving.specs.Dormant.{Places}
 -- 1101011000111111000000 and whose bits 4 to 0 are zero
 abbrev pub is_call_word : ℕ → Bool
 is_call_word word = (word / 2 ^ 26 == 0x25) || ((word / 2 ^ 10 == 0x358FC0) && (word % 32 == 0))
+
+-- the instructions BL and BLR
+abbrev pub is_linking : BranchRegisterOp → Bool
+is_linking Br = false
+is_linking Blr = true
+is_linking Ret = false
+
+abbrev pub is_call_insn : Insn → Bool
+is_call_insn (insn.Branch (branch.Unconditional link distance)) = link
+is_call_insn (insn.BranchRegister x) = is_linking x.op
+is_call_insn other = false
 
 -- the turn from one state to the next executes a BL or BLR, which is counted
 pub record IsCall (old new : State) : Type 0 where

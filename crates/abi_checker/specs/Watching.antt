@@ -8,6 +8,7 @@ use Rattle.za_routines.specs.Places.{places_of}
 use Rattle.lazy_saving.specs.Dormant.{Places, IsDormantAt}
 use Rattle.abi_checker.specs.Marks.{HasMark, IsCall, IsBackFrom, is_call_word, past_call}
 use Rattle.abi_checker.specs.Faults.{IsMarkedAt, HasFault, HasReturned, IsFirstFault, AreLawful, block_of}
+use Rattle.abi_checker.specs.Whole.{AreWhole}
 use Rattle.abi_checker.specs.Near.{is_near}
 use Rattle.abi_checker.specs.Straight.{AreBlocks}
 use Rattle.abi_checker.specs.Keeping.{IsKept}
@@ -97,6 +98,7 @@ module _ (run : ℕ → State) where
   pub record IsWatched (n : ℕ) (watch : Watch) : Type 0 where
     pub none : (m : ℕ) (kind : AbiKind) → m ≤ n → ¬ HasFault run m kind
     pub lawful : AreLawful run n
+    pub whole : AreWhole run n
     pub walked : IsWalked n (suc n) watch.calls.items watch.returned
     pub few : length watch.calls.items ≤ 256
     pub counted : watch.returned + length watch.calls.items ≤ (run n).count

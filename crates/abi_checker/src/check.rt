@@ -14,6 +14,7 @@ ghost use Rattle.abi_checker.specs.Checked.{IsChecked};
 use crate::abi::Abi;
 use crate::marks::next_call;
 use crate::watch::Watch;
+use crate::whole::context_is_whole;
 use kernel_contexts::Context;
 use lone_runner::{AloneFault, make_turn, parting};
 use paged_memory::Image;
@@ -50,6 +51,7 @@ fn go_at_once(context: &mut Context, count: u32, watch: &mut Watch) -> Result<Op
         if made == 0 {
             return Ok(None);
         }
+        context_is_whole(context);
         let found = watch.tell(context, next.call, next.keeps, None)?;
         if found.is_some() {
             return Ok(found);
@@ -109,6 +111,7 @@ fn follow(
             Some(fault) => return Err(fault),
             None => {}
         }
+        context_is_whole(context);
         let past = call_made(call, before, context.count());
         found = watch.tell(context, past, false, found)?;
         if stop.is_some() {

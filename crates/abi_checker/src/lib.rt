@@ -13,7 +13,8 @@ mod near;
 mod open_call;
 mod permissions;
 mod watch;
+mod whole;
 
 pub use abi::{Abi, AbiKind};
 pub use check::check_abi;
-pub use laws::one_answer;
+pub use laws::{call_words_are_calls, one_answer, yes_brings_back};

@@ -41,6 +41,7 @@ impl Watch {
     ghost use Rattle.abi_checker.specs.Following.{IsUnderWay, IsSomewhereWith};
     ghost use Rattle.abi_checker.specs.Planning.{IsPlanned};
     ghost use Rattle.abi_checker.specs.Checked.{IsTold};
+    ghost use Rattle.abi_checker.specs.Whole.{IsWholeAt};
 
     /// No call.
     pub fn new(alloc: Global) -> Watch
@@ -206,7 +207,7 @@ impl Watch {
         requires home { is_home context.now ≡ true }
         requires somewhere { IsSomewhere self.old }
         ensures { (run : ℕ → State) (n : ℕ) → IsWatched run n self.old → run (suc n) ≡ state_of context.now
-            → IsPast (run n) (run (suc n)) past → (run n).count ≤ (run (suc n)).count
+            → IsPast (run n) (run (suc n)) past → (run n).count ≤ (run (suc n)).count → IsWholeAt run (suc n)
             → (keeps ≡ true → KeepsCode (run n).core.memory (run (suc n)).core.memory)
             → IfOk result (λ kind. IsToldNext run (suc n) kind self.new) }
     {
@@ -232,7 +233,7 @@ impl Watch {
         requires somewhere { IsSomewhereWith self.old found }
         ensures { (run : ℕ → State) (n : ℕ) → IsUnderWay run n self.old found
             → run (suc n) ≡ state_of context.now → IsPast (run n) (run (suc n)) past
-            → (run n).count ≤ (run (suc n)).count
+            → (run n).count ≤ (run (suc n)).count → IsWholeAt run (suc n)
             → (keeps ≡ true → KeepsCode (run n).core.memory (run (suc n)).core.memory)
             → IfOk result (λ told. IsUnderWay run (suc n) self.new told) }
     {

@@ -55,7 +55,7 @@ returns-then-is_some-clause-followed c = λ journal ticket h.
     (c.rounds.invariant.followed journal ticket h) c.advance_several-made.new.self c.advance_several-made.result c.min.result
     c.count.result c.advance_several-made.ensures c.next_turns-next.new.self c.next_turns-next.result c.count.ensures c.min.ensures
     c.next_turns-next.ensures.watched c.next_turns-next.ensures.planned c.tell.new.self c.in_ok-found.found c.in_ok-found.ensures
-    c.if-made-eq0.false
+    c.context_is_whole.ensures c.if-made-eq0.false
 
 pub returns-then-is_some-clause-goes : goal.returns-then-is_some-clause-goes
 returns-then-is_some-clause-goes c =
@@ -82,5 +82,5 @@ rounds-preserved c =
           (c.rounds.invariant.followed journal ticket h) c.advance_several-made.new.self c.advance_several-made.result c.min.result
           c.count.result c.advance_several-made.ensures c.next_turns-next.new.self c.next_turns-next.result c.count.ensures
           c.min.ensures c.next_turns-next.ensures.watched c.next_turns-next.ensures.planned c.tell.new.self c.in_ok-found.found
-          c.in_ok-found.ensures c.if-made-eq0.false (sym c.is_some.ensures ∙ c.if-is_some.false);
+          c.in_ok-found.ensures c.context_is_whole.ensures c.if-made-eq0.false (sym c.is_some.ensures ∙ c.if-is_some.false);
     }

@@ -12,6 +12,7 @@ faultless : (run : ℕ → State) (n : ℕ) (watch : Watch) → IsWatched run n 
 faultless run n watch w = record {
   none = w.none;
   lawful = w.lawful;
+  whole = w.whole;
   back = count_back run n (suc n) watch.calls.items watch.returned w.walked;
   out = count_open run n (suc n) watch.calls.items watch.returned w.walked;
 }

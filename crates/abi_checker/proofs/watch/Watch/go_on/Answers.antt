@@ -36,7 +36,7 @@ settle-requires-clause-near c =
     (k.known m m (λ _. code_stays m) here.2.known)).near
 
 pub returns-then-branch : goal.returns-then-branch
-returns-then-branch c = λ run n w e past grows code.
+returns-then-branch c = λ run n w e past grows whole code.
     let s = state_of c.args.context.now in
     let m = (run n).core.memory in
     let k = c.keep_blocks.ensures in
@@ -60,7 +60,7 @@ call-requires-clause-few c =
     omega (arith, few, fewer)
 
 pub returns-in-Some : goal.returns-in-Some
-returns-in-Some c = λ run n w e past grows code.
+returns-in-Some c = λ run n w e past grows whole code.
     let s = state_of c.args.context.now in
     let m = (run n).core.memory in
     let k = c.keep_blocks.ensures in
@@ -80,11 +80,11 @@ returns-in-Some c = λ run n w e past grows code.
     × ((x : AddressSpace) → AreBlocks mid.near x mid.blocks.known → AreBlocks new.near x new.blocks.known)) c.call.ensures.near
     c.call.ensures.known (λ kind near blocks. (near, blocks)))
     (λ kind after both.
-    went_called run n old s kept e grows known mid (c.in_ok-settle.ensures.no (ap Ok c.if-branch.false)) c.in-Some.past new
-    (subst (λ o. IsPast (run n) (run (suc n)) o) c.in-Some.is past) both.0 both.1 kind after)
+    went_called run n old s kept e grows known mid (c.in_ok-settle.ensures.no (ap Ok c.if-branch.false)) (λ call p r. whole)
+    c.in-Some.past new (subst (λ o. IsPast (run n) (run (suc n)) o) c.in-Some.is past) whole both.0 both.1 kind after)
 
 pub returns-in-None : goal.returns-in-None
-returns-in-None c = λ run n w e past grows code.
+returns-in-None c = λ run n w e past grows whole code.
     let s = state_of c.args.context.now in
     let m = (run n).core.memory in
     let k = c.keep_blocks.ensures in
@@ -93,4 +93,4 @@ returns-in-None c = λ run n w e past grows code.
     same_watched run n c.args.self.now old w k.calls k.returned k.near (k.known m m (λ _. code_stays m) w.known) in
     let known = k.known m s.core.memory (λ t. subst (λ (u : State). KeepsCode m u.core.memory) e (code t)) w.known in
     went_uncalled run n old s kept e grows known c.settle.new.self (c.in_ok-settle.ensures.no (ap Ok c.if-branch.false))
-    (subst (λ o. IsPast (run n) (run (suc n)) o) c.in-None.is past)
+    (λ call p r. whole) (subst (λ o. IsPast (run n) (run (suc n)) o) c.in-None.is past)
