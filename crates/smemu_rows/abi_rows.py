@@ -1,7 +1,8 @@
 """The list data/abi.txt: what `abi-check` tells of runs with calls behind which the tail of the lazy saving scheme stands, by marked_calls.py.
 
 The lines are those of changed.py. The programs of lazy.py whose callees keep, save or lose ZA stand there already; those here have each kind of fault, two in one
-turn, returns at another depth and SP, calls within one another, in handlers and by BLR, and tails at the end of a page or changed after the call.
+turn, returns at another depth and SP, calls within one another, in handlers, handlers within handlers and by BLR, tails at the end of a page or changed after
+the call, and threads of which one has a fault.
 """
 from changed import case
 from elf import Segment, build, text_of
@@ -10,12 +11,15 @@ from instructions import EXIT, add, calls, laid_out, movz, subs, to
 from lazy import CLEAR_BLOCK, KEEPS_LINK, LINK, LOAD, NOP, RET, ROUTINES, SET_BLOCK, SMSTART_ZA, SMSTOP_ZA, TAIL
 from marked_calls import abi_check
 from nested import RETURNS, posts, sets
+from world import run
+from world_programs import CBNZ, copy
 
 TEXT, BLOCK, BUFFER, PATTERN = 0x400000, 0x500000, 0x501000, 0x510000
 ADR_X19, SUB_SP, MOV_SP = 0x10000013, 0xD10003FF, 0x9100001F
 NE, EQ, ALWAYS = 1, 0, 14
-# str x30, [sp, #-16]!; ldr x30, [sp], #16; blr x9; br x9; mov x19, x1; mov sp, x22; mov x22, sp
+# str x30, [sp, #-16]!; ldr x30, [sp], #16; blr x9; br x9; mov x19, x1; mov sp, x22; mov x22, sp; mov sp, x26; mov x26, sp
 PUSH, POP, BLR_X9, BR_X9, SP_FROM_X22, X22_FROM_SP = 0xF81F0FFE, 0xF84107FE, 0xD63F0120, 0xD61F0120, 0x910002DF, 0x910003F6
+SP_FROM_X26, X26_FROM_SP = 0x9100035F, 0x910003FA
 OPTIONS = {"svl": 128}
 
 
@@ -126,7 +130,21 @@ def returns():
     handler = [KEEPS_LINK, *SETS, calls("inner"), *TAIL, LINK, *RETURNS]
     for name, inner in {"lawful": [KEEPS_LINK | 1 << 1, calls("disable"), LINK | 2 << 16, RET], "losing": [SMSTOP_ZA, RET]}.items():
         yield f"call-in-a-handler-that-is-{name}", program(*sets(s5="handler"), *posts(5), *[NOP] * 80, *EXIT, "handler", *handler, "inner", *inner)
+    for name, last in {"lawful": [RET], "losing": [SMSTOP_ZA, RET]}.items():
+        yield f"call-in-a-second-handler-that-is-{name}", within_others(last)
     yield "callee-over-a-handler", program(*begins, calls("callee"), *TAIL, *EXIT, "callee", *posts(5), *[NOP] * 60, RET, "handler", SMSTART_ZA, CLEAR_BLOCK, SMSTOP_ZA, *RETURNS)
+
+
+def within_others(last):
+    """A call in a handler within a handler. While it is open a third handler makes a call of its own at the same place and with the same SP, by another
+    block, which returns; then the third handler returns, and the first call's callee ends by the last words."""
+    return program(
+        *sets(s3="one", s5="two", s7="three"), *posts(3), *[NOP] * 200, *EXIT,
+        "one", *posts(5), *[NOP] * 200, *RETURNS,
+        "two", *SETS, X22_FROM_SP, movz(25, 0), *posts(7), "again", calls("callee"), *TAIL, (CBNZ | 25, "end"), *RETURNS,
+        "callee", (CBNZ | 25, "inner"), *[NOP] * 200, *last, "inner", RET,
+        "three", X26_FROM_SP, SP_FROM_X22, movz(25, 1), *at(19, BLOCK + 256), SMSTART_ZA, SET_BLOCK, to("again"), "end", SP_FROM_X26, *RETURNS,
+        data=block() + bytes(240) + block(buffer=BUFFER + 512))
 
 
 def moved(to_end):
@@ -158,6 +176,18 @@ def programs():
         yield from kind()
 
 
+def losing(number):
+    """A program whose callee loses ZA in the thread of that number, and in no other one."""
+    return program(copy(28, 0), *SETS, calls("callee"), *TAIL, *EXIT, "callee", subs(31, 28, number), to("keeps", NE), SMSTOP_ZA, "keeps", RET)
+
+
+def of_threads():
+    """Programs that several threads run."""
+    for number in range(2):
+        yield f"thread-{number}-of-2-loses", losing(number), 2
+    yield "thread-2-of-4-loses", losing(2), 4
+
+
 def own_options(name):
     """The slice of a program with a handler: the signal comes while the callee, or the handler's, is under way. The shortest ones run at the usual length."""
     return {"slice": 60} if "handler" in name or "depth" in name else {"svl": 256} if "shortest" in name else {}
@@ -170,6 +200,10 @@ def abi_rows(contents, lazy_names):
         name = f"abi-{name}"
         files[name], reports[f"{name}.report"] = file, report(file, **{**OPTIONS, **own_options(name)}, budget=20_000)
     checks = [(name, file, f"{name}.report", reports[f"{name}.report"].encode(), 0) for name, file in files.items()]
+    for name, file, threads in of_threads():
+        name = f"abi-{name}"
+        files[name], reports[f"{name}.report"] = file, run(file, **OPTIONS, budget=20_000, threads=threads)
+        checks += [(name, file, f"{name}.report", reports[f"{name}.report"].encode(), thread) for thread in range(threads)]
     checks += [(name, contents[f"{name}.elf"], f"{name}.elf.txt", contents[f"{name}.elf.txt"], 0) for name in lazy_names]
     # files that are refused, and journals from which the run parts
     checks += [(program, contents[f"{program}.elf"], reported, contents[reported], thread) for program, reported, thread in (
