@@ -54,7 +54,7 @@ statuses:
   11   bad plan: line L: KIND, where the file is no plan, or no script
   12   bad checkpoint: toolong, or field K, or count C, where the file is no checkpoint of
        REPORT, or COUNT is not below C
-  13   unlawful: count C pc H KIND, where a marked call is not lawful
+  13   unlawful: count C pc H KIND, where a marked call is at fault
   14   bad vectors: toolong, or line L, where the file is no file of vectors
 
 what the usual refusals of a program file mean:
