@@ -1,2 +1,3 @@
 pub mod AnyCores
 pub mod OneRun
+pub mod Rests

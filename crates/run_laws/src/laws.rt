@@ -1,5 +1,5 @@
 //! What is one of the runs of a thread.
-ghost use Rattle.std.specs.Prelude.{◌≡◌, ℕ, List, [], ◌∷◌};
+ghost use Rattle.std.specs.Prelude.{◌≡◌, ◌≤◌, ℕ, List, [], ◌∷◌, length, drop};
 ghost use Rattle.sm_types.specs.declared.config.Config.{Config};
 ghost use Rattle.sm_types.specs.declared.shared_op.Event.{Event};
 ghost use Rattle.sm_types.specs.declared.shared_words.Words.{Words};
@@ -7,8 +7,10 @@ ghost use Rattle.sm_types.specs.declared.stop.Stop.{Stop};
 ghost use Rattle.paged_memory.specs.Image.{Program};
 ghost use Rattle.shared_region.specs.History.{AreOneHistory};
 ghost use Rattle.kernel_contexts.specs.State.{State};
+ghost use Rattle.kernel_contexts.specs.Run.{reach, At};
 ghost use Rattle.lone_runner.specs.LoneRun.{IsLoneRun};
 ghost use Rattle.run_laws.specs.Options.{AreSameButCores};
+ghost use Rattle.run_laws.specs.Rests.{ComesToTheRun};
 
 /// A thread that shares its words with no other has one run: where two journals of thread 0 are each one
 /// history with some words, and the thread's run over each has an end, the journals and the words are the
@@ -29,4 +31,25 @@ pub fn cores_change_no_run()
     ensures { (program : Program) (c d : Config) (thread : ℕ) (journal : List Event) (s : State) (p : Stop)
         → AreSameButCores c d → IsLoneRun program c thread journal s p
         → IsLoneRun program d thread journal s p }
+{}
+
+/// The events that are left at a place of a thread's run at which it goes on are those of the journal that come
+/// after the ones that are used.
+pub fn events_come_in_order()
+    ensures used { (program : Program) (config : Config) (thread : ℕ) (journal : List Event) (turns : ℕ)
+        (from : State) (used : ℕ) (left : List Event)
+        → reach program config thread journal turns ≡ At from used left → used ≤ length journal }
+    ensures left { (program : Program) (config : Config) (thread : ℕ) (journal : List Event) (turns : ℕ)
+        (from : State) (used : ℕ) (left : List Event)
+        → reach program config thread journal turns ≡ At from used left → left ≡ drop used journal }
+{}
+
+/// A run that is made in two parts comes to what it comes to in one: from the state of a place at which the
+/// thread goes on, over the events of the journal after the ones that are used by then, to each count that is
+/// not below that of the place.
+pub fn rests_come_to_the_run()
+    ensures { (program : Program) (config : Config) (thread : ℕ) (journal : List Event) (turns : ℕ)
+        (from : State) (used : ℕ) (left : List Event) (count : ℕ)
+        → reach program config thread journal turns ≡ At from used left → from.count ≤ count
+        → ComesToTheRun program config thread journal from used count }
 {}
