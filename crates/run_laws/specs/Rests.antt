@@ -10,9 +10,9 @@ use Rattle.lone_runner.specs.Parting.{IsParting}
 use Rattle.lone_runner.specs.Rest.{EndsFrom, IsPartingFrom, IsRestOfRun}
 use Rattle.lone_runner.specs.declared.fault.AloneFault.{AloneFault}
 
--- from a state, over the events of a journal that come after so many, the rest of a run comes to what the whole
--- run comes to at a count: it ends there exactly where the whole run does not part; each end of the one is an
--- end of the other; and so is each way of parting
+-- from a state, over the events of a journal that come after so many, the rest of a run comes to what the
+-- whole run comes to at a count: it ends there exactly where the whole run does not part; each end of the one
+-- is an end of the other; and so is each way of parting
 pub record ComesToTheRun (program : Program) (config : Config) (thread : ℕ) (journal : List Event)
     (from : State) (used count : ℕ)
     : Type 0 where

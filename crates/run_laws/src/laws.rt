@@ -33,8 +33,8 @@ pub fn cores_change_no_run()
         → IsLoneRun program d thread journal s p }
 {}
 
-/// The events that are left at a place of a thread's run at which it goes on are those of the journal that come
-/// after the ones that are used.
+/// The events that are left at a place of a thread's run at which it goes on are those of the journal that
+/// come after the ones that are used.
 pub fn events_come_in_order()
     ensures used { (program : Program) (config : Config) (thread : ℕ) (journal : List Event) (turns : ℕ)
         (from : State) (used : ℕ) (left : List Event)
