@@ -5,8 +5,11 @@ pub mod OneDebug
 pub mod OneCheck
 pub mod OneCheckpoint
 pub mod OneResume
+pub mod Short
+pub mod Resumed
 pub mod OneEnding
 pub mod Beginnings
 pub mod Fates
 pub mod Longest
+pub mod Commands
 pub mod Names

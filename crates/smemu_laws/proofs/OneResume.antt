@@ -90,18 +90,17 @@ module _ (bytes : List ℕ) (said : Report) (s r : State) (thread number events 
 same_block : (o : Option Block) (a b : Block) → o ≡ Some a → o ≡ Some b → a ≡ b
 same_block o a b e h = cc
 
-record Told : Type 0 where
-  config : Config
-  thread : ℕ
-  from : State
-  used : ℕ
-  block : Block
+pub record Told : Type 0 where
+  pub config : Config
+  pub thread : ℕ
+  pub from : State
+  pub used : ℕ
+  pub block : Block
 
-told : {file report bytes : List ℕ} → IsRestIn file report bytes → Told
+abbrev pub told : {file report bytes : List ℕ} → IsRestIn file report bytes → Told
 told r = record { config = r.at.config; thread = r.thread; from = r.from; used = r.used; block = r.at.block }
 
-one_told : (file report bytes : List ℕ) (a b : IsRestIn file report bytes) → told a ≡ told b
-unfolding told
+pub one_told : (file report bytes : List ℕ) (a b : IsRestIn file report bytes) → told a ≡ told b
 one_told file report bytes a b =
     let said = same_said (report_in report) a.at.said b.at.said a.at.reads b.at.reads in
     let config =
@@ -116,18 +115,17 @@ one_told file report bytes a b =
     (sym (λ i. slice_get (said i).blocks (thread i)) ∙ a.at.stands) b.at.stands in
     λ i. record { config = config i; thread = thread i; from = from i; used = used i; block = block i }
 
-Ends : Told → Type 0
+abbrev Ends : Told → Type 0
 Ends t = EndsFrom t.config t.thread t.from t.used (drop t.used t.block.journal) t.block.count
 
-Parts : AloneFault → Told → Type 0
+abbrev Parts : AloneFault → Told → Type 0
 Parts fault t = IsPartingFrom t.config t.thread t.from t.used (drop t.used t.block.journal) t.block.count fault
 
-end_text : (t : Told) → Ends t → List ℕ
+abbrev end_text : (t : Told) → Ends t → List ℕ
 end_text t end = block_text (version_of t.config) t.thread end.state (Some end.stop) t.block.journal
 
 -- the text of an end is one
 one_end_text : (t : Told) (a b : Ends t) → end_text t a ≡ end_text t b
-unfolding end_text Ends
 one_end_text t a b =
     let events = drop t.used t.block.journal in
     let state = one_end_state t.config t.thread t.from t.used events a.state b.state a.stop b.stop a.run b.run in
@@ -139,12 +137,10 @@ same_end_text t u same =
     subst (λ (v : Told). (a : Ends t) (b : Ends v) → end_text t a ≡ end_text v b) same (one_end_text t)
 
 ends_or_parts : (t u : Told) (fault : AloneFault) → t ≡ u → Ends t → Parts fault u → ⊥
-unfolding Ends Parts
 ends_or_parts t u fault same end parts =
     rest_ends t.config t.thread t.from t.used (drop t.used t.block.journal) t.block.count fault end (subst (Parts fault) (sym same) parts)
 
 one_parting : (t u : Told) (f g : AloneFault) → t ≡ u → Parts f t → Parts g u → f ≡ g
-unfolding Parts
 one_parting t u f g same h k =
     one_rest_fault u.config u.thread u.from u.used (drop u.used u.block.journal) u.block.count f g (subst (Parts f) same h) k
 
@@ -155,21 +151,17 @@ module _ (file report bytes : List ℕ) (a b : IsRestIn file report bytes) where
   same = one_told file report bytes a b
 
   same_text : (end : RestEnds a) (other : RestEnds b) → rest_text a end ≡ rest_text b other
-  unfolding told end_text Ends
   same_text end other = same_end_text (told a) (told b) same end other
 
   not_parted : (fault : AloneFault) → RestEnds a
       → IsPartingFrom b.at.config b.thread b.from b.used (rest_of b) b.at.block.count fault → ⊥
-  unfolding told Ends Parts
   not_parted fault end parts = ends_or_parts (told a) (told b) fault same end parts
 
   one_parted : (f g : AloneFault) → IsPartingFrom a.at.config a.thread a.from a.used (rest_of a) a.at.block.count f
       → IsPartingFrom b.at.config b.thread b.from b.used (rest_of b) b.at.block.count g → f ≡ g
-  unfolding told Parts
   one_parted f g h k = one_parting (told a) (told b) f g same h k
 
   one_block_text : text_in report a.at.block ≡ text_in report b.at.block
-  unfolding told
   one_block_text = ap (λ (t : Told). text_in report t.block) same
 
 pub one_resume : (file report bytes text other : List ℕ) → IsResumeOf file report bytes text → IsResumeOf file report bytes other
@@ -181,7 +173,6 @@ same_difference o a b e h = cc
 
 pub one_rest_difference : (file report bytes text other : List ℕ) → RestDiffers file report bytes text
     → RestDiffers file report bytes other → text ≡ other
-unfolding told
 one_rest_difference file report bytes text other (inl h) (inl g) =
     h.is_text ∙ ap parting_line (one_parted file report bytes h.rest g.rest h.fault g.fault h.parts g.parts) ∙ sym g.is_text
 one_rest_difference file report bytes text other (inl h) (inr g) =

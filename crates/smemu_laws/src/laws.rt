@@ -1,14 +1,19 @@
 //! The laws of answers: but in a run on several cores, and where memory is wanting, nothing in them is left
 //! to choose, and each text begins as the text of help says.
-ghost use Rattle.std.specs.Prelude.{◌≡◌, ◌≢◌, ◌≤◌, ℕ, List, Option, Some, length};
+ghost use Rattle.std.specs.Prelude.{◌≡◌, ◌≢◌, ◌≤◌, ◌<◌, ◌↔◌, ℕ, List, Option, Some, None, length};
 ghost use Rattle.cmd_words.specs.Words.{Request, command_of};
 ghost use Rattle.cmd_words.specs.declared.verb.Verb.TheVariants as verbs;
+ghost use Rattle.ckpt_fields.specs.Rows.{checkpoint_fault};
 ghost use Rattle.command_lines.specs.Texts.{HasFront, status_words};
 ghost use Rattle.command_lines.specs.declared.status.Status.{Status};
 ghost use Rattle.edge_io.specs.Files.{FilesView, Told};
 ghost use Rattle.smemu.specs.Answers.{IsOutcome};
+ghost use Rattle.smemu.specs.Checkpoints.{IsCheckpointOf};
 ghost use Rattle.smemu.specs.Ends.{Change, Defined, Stands};
+ghost use Rattle.smemu.specs.Replay.{DiffersSo, IsReplayOf};
 ghost use Rattle.smemu.specs.Requests.{files_named};
+ghost use Rattle.smemu.specs.Resume.{IsResumeOf, RestDiffers};
+ghost use Rattle.smemu_laws.specs.Asked.{checkpoint_asked, replay_asked, resume_asked};
 ghost use Rattle.smemu_laws.specs.Names.{names_of, names_said};
 ghost use Rattle.smemu_laws.specs.OneAnswer.{AreOneText};
 
@@ -70,4 +75,33 @@ pub fn longest_program()
 pub fn each_name_is_a_file()
     ensures { (words : List (List ℕ)) (request : Request) → command_of words ≡ Some request
         → names_of (files_named request) ≡ names_said request.operands }
+{}
+
+/// From a checkpoint that was written of a thread of a report, the rest of the thread's run is told as its
+/// replay is. Where the replay comes to the block, the rest does; where the budget was not used up at the
+/// checkpoint, the report reads it, and both come to the same block, or to the same difference.
+pub fn resumes_as_replays()
+    ensures read { (file report checkpoint : List ℕ) (thread count : ℕ)
+        (c : IsCheckpointOf file report thread count checkpoint) → count < c.at.config.budget
+        → checkpoint_fault c.at.said checkpoint ≡ None }
+    ensures replayed { (file report checkpoint text : List ℕ) (thread count : ℕ)
+        → IsCheckpointOf file report thread count checkpoint
+        → IsReplayOf file report thread text → IsResumeOf file report checkpoint text }
+    ensures block { (file report checkpoint text : List ℕ) (thread count : ℕ)
+        (c : IsCheckpointOf file report thread count checkpoint) → count < c.at.config.budget
+        → IsResumeOf file report checkpoint text ↔ IsReplayOf file report thread text }
+    ensures differs { (file report checkpoint text : List ℕ) (thread count : ℕ)
+        (c : IsCheckpointOf file report thread count checkpoint) → count < c.at.config.budget
+        → RestDiffers file report checkpoint text ↔ DiffersSo file report thread text }
+{}
+
+/// What `ckpt` has written of a thread is resumed where the thread is replayed: over files that are told, of
+/// which it is one, `resume` comes to the block to which `replay` comes.
+pub fn resumed_where_replayed()
+    ensures { (files : List ℕ → Option (List ℕ)) (program report name : List ℕ) (thread count : ℕ)
+        (checkpoint text : List ℕ)
+        → IsOutcome (Some files) (checkpoint_asked program report thread count) Status.Done checkpoint
+        → files name ≡ Some checkpoint
+        → IsOutcome (Some files) (replay_asked program report thread) Status.Done text
+        → IsOutcome (Some files) (resume_asked program report name) Status.Done text }
 {}
