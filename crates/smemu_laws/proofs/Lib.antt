@@ -12,4 +12,5 @@ pub mod Beginnings
 pub mod Fates
 pub mod Longest
 pub mod Commands
+pub mod GoesOn
 pub mod Names

@@ -7,12 +7,14 @@ ghost use Rattle.ckpt_fields.specs.Rows.{checkpoint_fault};
 ghost use Rattle.command_lines.specs.Texts.{HasFront, status_words};
 ghost use Rattle.command_lines.specs.declared.status.Status.{Status};
 ghost use Rattle.edge_io.specs.Files.{FilesView, Told};
+ghost use Rattle.lone_runner.specs.Rest.{IsPartingFrom};
+ghost use Rattle.lone_runner.specs.declared.fault.AloneFault.{AloneFault};
 ghost use Rattle.smemu.specs.Answers.{IsOutcome};
 ghost use Rattle.smemu.specs.Checkpoints.{IsCheckpointOf};
 ghost use Rattle.smemu.specs.Ends.{Change, Defined, Stands};
 ghost use Rattle.smemu.specs.Replay.{DiffersSo, IsReplayOf};
 ghost use Rattle.smemu.specs.Requests.{files_named};
-ghost use Rattle.smemu.specs.Resume.{IsResumeOf, RestDiffers};
+ghost use Rattle.smemu.specs.Resume.{rest_of, IsRestIn, IsResumeOf, RestDiffers, RestEnds};
 ghost use Rattle.smemu_laws.specs.Asked.{checkpoint_asked, replay_asked, resume_asked};
 ghost use Rattle.smemu_laws.specs.Names.{names_of, names_said};
 ghost use Rattle.smemu_laws.specs.OneAnswer.{AreOneText};
@@ -93,6 +95,15 @@ pub fn resumes_as_replays()
     ensures differs { (file report checkpoint text : List ℕ) (thread count : ℕ)
         (c : IsCheckpointOf file report thread count checkpoint) → count < c.at.config.budget
         → RestDiffers file report checkpoint text ↔ DiffersSo file report thread text }
+{}
+
+/// What is left of a thread's run, from a checkpoint that a report reads, ends at the count of the report's
+/// block, with all events used, where it does not part from these.
+pub fn rests_end_or_part()
+    ensures { (file report checkpoint : List ℕ) (rest : IsRestIn file report checkpoint)
+        → ((fault : AloneFault) → ¬ IsPartingFrom rest.at.config rest.thread rest.from rest.used
+        (rest_of rest) rest.at.block.count fault)
+        → RestEnds rest }
 {}
 
 /// What `ckpt` has written of a thread is resumed where the thread is replayed: over files that are told, of

@@ -9,5 +9,6 @@ mod laws;
 
 pub use laws::{
     a_front_before_memory, begins_as_help_says, each_name_is_a_file, longest_program, one_answer,
-    one_ending, only_debug_writes_before_memory, resumed_where_replayed, resumes_as_replays,
+    one_ending, only_debug_writes_before_memory, rests_end_or_part, resumed_where_replayed,
+    resumes_as_replays,
 };

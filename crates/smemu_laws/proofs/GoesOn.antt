@@ -1,0 +1,178 @@
+-- What is left of a run from a checkpoint that a report reads either parts from the block, or ends as it says.
+use Rattle.std.proofs.Common.{◌≡◌, ℕ, ◌+◌, ◌*◌, ◌/◌, ◌^◌, ◌<◌, ◌≤◌, ◌&&◌, ◌++◌, Bool, true, false, cond, List, [], ◌∷◌, length, map, None, Some, refl, ap, sym, ◌∙◌}
+use Rattle.std.proofs.Common.{subst, arith, length-append}
+use Rattle.std.specs.Prelude.{nat_le, nat_lt, slice_index, if◌then◌else◌}
+use Rattle.std.specs.FinMap.{entries, find, get, get-entries}
+use Rattle.std.specs.Ordering.{eq_by_cmp, nat_cmp}
+use Rattle.std.proofs.lemmas.Bool.Decides.{nat_tests}
+use Rattle.std.proofs.lemmas.List.{length-map}
+use Rattle.bit_ops.specs.Sums.{bool_number}
+use Rattle.byteorder.specs.Endian.{little_bytes}
+use Rattle.sm_types.specs.declared.numbers.Numbers.{Numbers}
+use Rattle.sm_types.specs.declared.scalars.Scalars.{Scalars}
+use Rattle.sve_vectors.specs.Predicates.{predicate_bytes}
+use Rattle.sve_vectors.specs.Registers.{AreOfLength, VectorRegisters}
+use Rattle.machine_step.specs.System.{nzcv_of, svcr_of}
+use Rattle.kernel_contexts.specs.Handlers.{is_signal}
+use Rattle.kernel_contexts.specs.State.{State}
+use Rattle.kernel_contexts.specs.Watch.{AreOfSignals}
+use Rattle.lone_runner.specs.Rest.{IsPartingFrom}
+use Rattle.lone_runner.specs.declared.fault.AloneFault.{AloneFault}
+use Rattle.lone_runner.proofs.Partings.{rest_ends_unless}
+use Rattle.report_reader.specs.Report.{Report}
+use Rattle.field_table.specs.Table.{IsFilled}
+use Rattle.ckpt_fields.specs.Rows.{array_size, checkpoint_table, counts, from_handlers, from_output, from_registers, from_system, from_thread}
+use Rattle.ckpt_fields.specs.Rows.{from_vectors, is_count, is_signal_past}
+use Rattle.ckpt_fields.specs.Values.{handler_values, output_values, page_values, system_values}
+use Rattle.ckpt_file.specs.Checkpoint.{array_values, checkpoint_values, pages_in, register_values, state_values, vector_values, ReadsCheckpoint}
+use Rattle.ckpt_file.proofs.Filling.{each_of_all, fields_good}
+use Rattle.ckpt_file.proofs.Modes.{and_second}
+use Rattle.ckpt_file.proofs.Parts.{first_good, handlers_good, system_good, thread_good, vectors_good, AreHandlersPast, IsNarrowEntry, IsProgress}
+use Rattle.smemu.specs.Resume.{rest_of, IsRestIn, RestEnds}
+
+-- ---- handlers of signals alone
+
+above : (last n : ℕ) → is_signal_past last n ≡ true → last < n
+above last n e = grind (arith, nat_tests)
+
+is_one : (last n : ℕ) → is_signal_past last n ≡ true → is_signal n ≡ true
+is_one last n e = grind (arith, nat_tests)
+
+same_key : (k n : ℕ) → eq_by_cmp nat_cmp k n ≡ true → k ≡ n
+same_key k n e = grind (arith, nat_tests)
+
+false_or : (b : Bool) → (b ≡ true → ⊥) → b ≡ false
+false_or true never = absurd (never refl)
+false_or false never = refl
+
+not_both : (b : Bool) → b ≡ true → b ≡ false → ⊥
+not_both true e h = cc
+not_both false e h = cc
+
+not_found : (last k : ℕ) (es : List (ℕ × ℕ)) → AreHandlersPast last es → is_signal k ≡ false → find nat_cmp k es ≡ None
+not_found last k [] h none = refl
+not_found last k (e ∷ es) h none =
+    let other : eq_by_cmp nat_cmp k e.0 ≡ false =
+    false_or (eq_by_cmp nat_cmp k e.0) (λ same.
+    not_both (is_signal k) (ap is_signal (same_key k e.0 same) ∙ is_one last e.0 h.0.0) none) in
+    ap (λ b. cond b (Some e.1) (find nat_cmp k es)) other ∙ not_found e.0 k es h.1 none
+
+-- ---- the fields of a state
+
+small_flag : (b : Bool) → bool_number b ≤ 1
+small_flag true = omega arith
+small_flag false = omega arith
+
+flags_low : (s : Scalars) → nzcv_of s < 2 ^ 64
+unfolding nzcv_of
+flags_low s =
+    let n = small_flag s.n in
+    let z = small_flag s.z in
+    let c = small_flag s.c in
+    let v = small_flag s.v in omega (arith, n, z, c, v)
+
+modes_low : (a b : Bool) → bool_number a + 2 * bool_number b < 2 ^ 64
+modes_low a b =
+    let first = small_flag a in
+    let second = small_flag b in omega (arith, first, second)
+
+array_by : (options : Numbers) (on za : Bool)
+    → array_size options (bool_number on + 2 * bool_number za) ≡ (if za then options.svl / 8 else 0)
+array_by options true true = refl
+array_by options true false = refl
+array_by options false true = refl
+array_by options false false = refl
+
+array_many : (on : Bool) (size : ℕ) (za : List (List ℕ)) → length za ≡ size → length (array_values on za) ≡ (if on then size else 0)
+array_many true size za h = h
+array_many false size za h = refl
+
+predicates_many : (size : ℕ) (r : VectorRegisters) → AreOfLength size r
+    → length (map predicate_bytes r.predicates ++ predicate_bytes r.ffr ∷ []) ≡ 17
+predicates_many size r h =
+    omega (
+      arith,
+      length-append (map predicate_bytes r.predicates) (predicate_bytes r.ffr ∷ []),
+      length-map r.predicates predicate_bytes,
+      h.predicate_count,
+    )
+
+module _ (bytes : List ℕ) (report : Report) (s : State) (thread events : ℕ) (h : ReadsCheckpoint bytes report s thread events) where
+  abbrev output_left : List (List ℕ)
+  output_left = output_values s.output ++ page_values (pages_in s.core.memory)
+
+  abbrev handlers_left : List (List ℕ)
+  handlers_left = handler_values (entries s.handlers) ++ output_left
+
+  abbrev vectors_left : List (List ℕ)
+  vectors_left = vector_values s.core.bank.registers ++ (array_values s.core.za_on s.core.bank.za ++ handlers_left)
+
+  abbrev system_left : List (List ℕ)
+  system_left =
+      system_values (nzcv_of s.core.scalars) (svcr_of s.core) s.core.tpidr s.core.tpidr2 s.held s.mask s.polled ++ vectors_left
+
+  progress : IsProgress report thread s.count events s.depth s.turns × IsFilled (from_registers report) (state_values s)
+  unfolding checkpoint_table checkpoint_values
+  progress =
+      thread_good report (from_registers report) thread s.count events s.depth s.turns (state_values s)
+      (record {
+        thread_fits = h.widths.thread;
+        count_fits = h.widths.count;
+        events_fits = h.widths.events;
+        depth_fits = h.widths.depth;
+        turns_fits = h.widths.turns;
+      })
+      (first_good report.image report.options (from_thread report) _ h.fields)
+
+  system_filled : IsFilled (from_system report) system_left
+  unfolding state_values
+  system_filled =
+      let many : length (register_values s.core.scalars) ≡ 33 =
+      omega (arith, length-map s.core.scalars.x (little_bytes 8), h.widths.core.count) in
+      fields_good 33 8 (from_system report) (register_values s.core.scalars) system_left many progress.1
+
+  vectors_filled : IsFilled (from_vectors report (svcr_of s.core)) vectors_left
+  vectors_filled =
+      (system_good report.options.kernel (from_vectors report) (nzcv_of s.core.scalars) (svcr_of s.core) s.core.tpidr s.core.tpidr2 s.held
+      s.mask s.polled vectors_left
+      (record {
+        nzcv_fits = flags_low s.core.scalars;
+        svcr_fits = modes_low s.core.streaming s.core.za_on;
+        tpidr_fits = h.widths.core.tpidr;
+        tpidr2_fits = h.widths.core.tpidr2;
+        held_fits = h.widths.held;
+        mask_fits = h.widths.mask;
+      }) system_filled).1
+
+  handlers_filled : IsFilled from_handlers handlers_left
+  unfolding vector_values
+  handlers_filled =
+      let r : VectorRegisters = s.core.bank.registers in
+      vectors_good report.options (svcr_of s.core) from_handlers r.vectors (map predicate_bytes r.predicates ++ predicate_bytes r.ffr ∷ [])
+      (array_values s.core.za_on s.core.bank.za) handlers_left h.widths.core.registers.vector_count
+      (predicates_many _ r h.widths.core.registers)
+      (array_many s.core.za_on (report.options.svl / 8) s.core.bank.za h.widths.array
+      ∙ sym (array_by report.options s.core.streaming s.core.za_on)) vectors_filled
+
+  of_signals : AreOfSignals s.handlers
+  of_signals k none =
+      let good =
+      handlers_good from_output (entries s.handlers) output_left h.widths.few_handlers
+      (each_of_all IsNarrowEntry (entries s.handlers) h.widths.handlers) handlers_filled in
+      get-entries s.handlers k ∙ not_found 0 k (entries s.handlers) good.1.0 none
+
+  within_budget : s.count ≤ report.options.budget
+  within_budget =
+      let less : nat_lt s.count report.options.budget ≡ true =
+      and_second (nat_lt s.count (slice_index (counts report) thread)) (nat_lt s.count report.options.budget) progress.0.count_good in
+      grind (arith, nat_tests)
+
+-- ---- the rest of the run
+
+pub rest_ends : (file report checkpoint : List ℕ) (r : IsRestIn file report checkpoint)
+    → ((fault : AloneFault) → ¬ IsPartingFrom r.at.config r.thread r.from r.used (rest_of r) r.at.block.count fault) → RestEnds r
+rest_ends file report checkpoint r none =
+    rest_ends_unless r.at.config r.thread r.from r.used (rest_of r) r.at.block.count
+    (subst (λ (o : Numbers). r.from.count ≤ o.budget) (sym r.at.given)
+    (within_budget checkpoint r.at.said r.from r.thread r.used r.reads))
+    (of_signals checkpoint r.at.said r.from r.thread r.used r.reads) none
