@@ -11,3 +11,4 @@ pub mod RunKept
 pub mod Kept
 pub mod Filled
 pub mod RunGood
+pub mod Stands

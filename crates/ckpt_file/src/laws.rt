@@ -7,7 +7,7 @@ ghost use Rattle.kernel_contexts.specs.Context.{is_home};
 ghost use Rattle.report_reader.specs.Report.{Report};
 ghost use Rattle.ckpt_fields.specs.Rows.{bad_field};
 ghost use Rattle.ckpt_file.specs.Checkpoint.{ReadsCheckpoint, checkpoint};
-ghost use Rattle.ckpt_file.specs.Beyond.{HasLoadablePages, GoesBeyond};
+ghost use Rattle.ckpt_file.specs.Beyond.{HasLoadablePages, GoesBeyond, StandsInBlock};
 
 use kernel_contexts::{Context, contexts_are_plain};
 use sm_types::Config;
@@ -16,6 +16,12 @@ use sm_types::Config;
 pub fn checkpoints_have_good_fields()
     ensures { (bytes : List ℕ) (report : Report) (state : State) (thread events : ℕ)
         → ReadsCheckpoint bytes report state thread events → bad_field report bytes ≡ None }
+{}
+
+/// The file of a state that is read is that of a thread which the report has, before the end of its block.
+pub fn checkpoints_stand_in_blocks()
+    ensures { (bytes : List ℕ) (report : Report) (state : State) (thread events : ℕ)
+        → ReadsCheckpoint bytes report state thread events → StandsInBlock report state thread events }
 {}
 
 /// A file is that of one state, of one thread after so many events, at most.

@@ -8,6 +8,9 @@ mod read;
 mod write;
 
 pub use ckpt_fields::CkptFault;
-pub use laws::{checkpoints_are_read, checkpoints_have_good_fields, one_state_a_file};
+pub use laws::{
+    checkpoints_are_read, checkpoints_have_good_fields, checkpoints_stand_in_blocks,
+    one_state_a_file,
+};
 pub use read::read_ckpt;
 pub use write::write_ckpt;

@@ -1,8 +1,7 @@
 -- The checkpoint of a thread of a report, from what its parts say.
-use Rattle.std.proofs.Common.{◌≡◌, inl, inr, ℕ, zero, suc, ◌<◌, ◌≤◌, ◌&&◌, Bool, true, false, List, [], ◌∷◌, ◌++◌, length, map, refl, sym, ◌∙◌}
+use Rattle.std.proofs.Common.{◌≡◌, inl, ℕ, zero, suc, ◌<◌, ◌≤◌, List, [], ◌∷◌, length, map, refl, ◌∙◌}
 use Rattle.std.proofs.Common.{ap, arith, Option, Some, None, Result, Ok, Err}
-use Rattle.std.specs.Prelude.{nat_le, nat_lt, slice_get, slice_index}
-use Rattle.std.proofs.lemmas.Bool.Decides.{nat_tests}
+use Rattle.std.specs.Prelude.{slice_get, slice_index}
 use Rattle.cmd_words.specs.Command.{asking}
 use Rattle.cmd_words.specs.Options.{default_options}
 use Rattle.cmd_words.specs.Words.{CountSaid, NameSaid, ThreadSaid}
@@ -17,13 +16,7 @@ use Rattle.kernel_contexts.specs.State.{State}
 use Rattle.kernel_contexts.specs.declared.context.Context.{Context}
 use Rattle.lone_runner.specs.Parting.{IsShown}
 use Rattle.paged_memory.specs.Image.{Program}
-use Rattle.field_table.specs.Rows.{number, said}
-use Rattle.field_table.specs.Table.{IsFilled}
-use Rattle.byteorder.specs.Endian.{little_bytes, little_number}
-use Rattle.ckpt_fields.specs.Rows.{are_events, checkpoint_table, counts, first_rows, from_registers, is_count, journals, options_rows, thread_rows}
-use Rattle.ckpt_fields.specs.Values.{first_values, option_values, thread_values}
-use Rattle.ckpt_file.specs.Checkpoint.{checkpoint_values, state_values, ReadsCheckpoint}
-use Rattle.ckpt_file.proofs.Filling.{back}
+use Rattle.ckpt_file.specs.Beyond.{StandsInBlock}
 use Rattle.report_reader.specs.Block.{Block}
 use Rattle.report_reader.specs.Report.{Report, report_in}
 use Rattle.smemu.specs.Checkpoints.{StandsAt, StopsAt}
@@ -97,64 +90,26 @@ checkpoint_accepted program report thread count file bytes (Err (refusal.Ended (
 checkpoint_accepted program report thread count file bytes (Err refusal.Memory) h = tt
 checkpoint_accepted program report thread count file bytes (Err r) h = absurd h
 
--- ---- what the table says of a checkpoint that is read
+-- ---- where a checkpoint that is read stands in its block
 
 same_block : (a b : Block) → ◌≡◌ {A = Option Block} (Some a) (Some b) → a ≡ b
 same_block a b e = cc
 
-pub index_said : (f : Block → ℕ) (blocks : List Block) (k : ℕ) (b : Block) → slice_get blocks k ≡ Some b → slice_index (map f blocks) k ≡ f b
+index_said : (f : Block → ℕ) (blocks : List Block) (k : ℕ) (b : Block) → slice_get blocks k ≡ Some b → slice_index (map f blocks) k ≡ f b
 index_said f [] k b e = cc
 index_said f (x ∷ xs) zero b e = ap f (same_block x b e)
 index_said f (x ∷ xs) (suc k) b e = index_said f xs k b e
 
-both : (a b : Bool) → (a && b) ≡ true → a ≡ true
-both true b e = refl
-both false b e = e
-
-module _ (bytes : List ℕ) (it : Report) (s : State) (thread used : ℕ) (h : ReadsCheckpoint bytes it s thread used) where
-  from_thread_on : IsFilled (thread_rows it (from_registers it)) (thread_values thread s.count used s.depth s.turns ++ state_values s)
-  unfolding checkpoint_table first_rows options_rows checkpoint_values first_values option_values number said
-  from_thread_on = h.fields.2.2.2.2.2.2.2.2
-
-  thread_so : nat_lt thread it.options.threads ≡ true
-  unfolding thread_rows thread_values number
-  thread_so = sym (ap (λ n. nat_lt n it.options.threads) (back 4 thread h.widths.thread)) ∙ from_thread_on.1
-
-  count_so : is_count (slice_index (counts it) thread) it.options.budget s.count ≡ true
-  unfolding thread_rows thread_values number
-  count_so =
-      sym (λ i. is_count (slice_index (counts it) (back 4 thread h.widths.thread i)) it.options.budget (back 4 s.count h.widths.count i))
-      ∙ from_thread_on.2.1
-
-  events_so : are_events (slice_index (journals it) thread) used ≡ true
-  unfolding thread_rows thread_values number
-  events_so =
-      sym (λ i. are_events (slice_index (journals it) (back 4 thread h.widths.thread i)) (back 4 used h.widths.events i))
-      ∙ from_thread_on.2.2.1
-
-  pub thread_below : thread < it.options.threads
-  thread_below = let is = thread_so in grind (arith, nat_tests)
-
-  count_below : s.count < slice_index (counts it) thread
-  count_below =
-      let is : nat_lt s.count (slice_index (counts it) thread) ≡ true =
-      both (nat_lt s.count (slice_index (counts it) thread)) (nat_lt s.count it.options.budget) count_so in
-      grind (arith, nat_tests)
-
-  events_within : used ≤ slice_index (journals it) thread
-  events_within =
-      let is : nat_le used (slice_index (journals it) thread) ≡ true =
-      both (nat_le used (slice_index (journals it) thread)) (nat_le used 262144) events_so in
-      grind (arith, nat_tests)
-
-  module _ (block : Block) (stands : slice_get it.blocks thread ≡ Some block) where
+module _ (it : Report) (s : State) (thread used : ℕ) (h : StandsInBlock it s thread used) (block : Block)
+    (stands : slice_get it.blocks thread ≡ Some block)
+  where
     pub most_counted : s.count ≤ block.count
     most_counted =
-        let here = count_below in let same = index_said (λ (b : Block). b.count) it.blocks thread block stands in
+        let here = h.count in let same = index_said (λ (b : Block). b.count) it.blocks thread block stands in
         omega (arith, here, same)
 
     pub used_within : used ≤ length block.journal
     used_within =
-        let here = events_within in
+        let here = h.events in
         let same = index_said (λ (b : Block). length b.journal) it.blocks thread block stands in
         omega (arith, here, same)

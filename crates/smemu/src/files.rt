@@ -22,7 +22,7 @@ ghost use Rattle.smemu.specs.Views.{IsUnopened};
 use crate::refusal::{Refusal, Unread};
 use crate::rejection::Rejection;
 use asm_core::{AsmFault, assemble};
-use ckpt_file::{CkptFault, read_ckpt};
+use ckpt_file::{CkptFault, checkpoints_stand_in_blocks, read_ckpt};
 use command_lines::{CheckpointFault, VectorsFault};
 use edge_io::{FileFault, Files};
 use elf_loader::{LoadFault, load};
@@ -154,6 +154,7 @@ fn checkpoint_file(alloc: Global, bytes: &[u8], report: &Report) -> Result<Loose
     ensures rejected { IfErr result
         (IsRejected (checkpoint_judge (Ok (report_said report.now))) bytes.now) }
 {
+    checkpoints_stand_in_blocks();
     match read_ckpt(alloc, bytes, report) {
         Ok(loose) => Ok(loose),
         Err(CkptFault::TooLong) => {
