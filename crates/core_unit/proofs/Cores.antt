@@ -11,7 +11,8 @@ use Rattle.mem_access.specs.declared.bank.Bank.{Bank}
 use Rattle.kernel_contexts.specs.Owner.{is_owner}
 use Rattle.kernel_contexts.specs.declared.context.Context.{Context}
 use Rattle.core_unit.specs.CoreState.{CoreState, BelongTo}
-use Rattle.core_unit.specs.Guest.{Guest, Held, held_on}
+use Rattle.kernel_contexts.specs.Guest.{Guest}
+use Rattle.core_unit.specs.Held.{Held, held_on}
 use Rattle.core_unit.specs.Need.{need_in_run}
 use Rattle.core_unit.specs.Owners.{IsTold, OwnerWith, are_apart, owns_among, numbers_of, freed, freed_by, moved, owner_after_turns}
 use Rattle.core_unit.specs.Residents.{RunsHere, HasRetired}

@@ -10,7 +10,8 @@ use Rattle.kernel_contexts.specs.Needs.{needs_vectors}
 use Rattle.kernel_contexts.specs.Owner.{is_owner}
 use Rattle.mem_access.specs.declared.bank.Bank.{Bank}
 use Rattle.core_unit.specs.Course.{Course, course}
-use Rattle.core_unit.specs.Guest.{Guest, Held}
+use Rattle.kernel_contexts.specs.Guest.{Guest}
+use Rattle.core_unit.specs.Held.{Held}
 use Rattle.core_unit.specs.Made.{HasMade}
 use Rattle.core_unit.specs.Need.{first_need_of, turns_begun, need_in_run}
 use Rattle.core_unit.specs.Owners.{moved, owner_after_turns}

@@ -13,7 +13,8 @@ use Rattle.kernel_contexts.specs.Context.{bank_of, IsSameThread}
 use Rattle.kernel_contexts.specs.SaveArea.{HasLengths}
 use Rattle.kernel_contexts.specs.State.{State}
 use Rattle.kernel_contexts.specs.declared.context.Context.{Context}
-use Rattle.core_unit.specs.Guest.{Held, guest_with, guest_of, guest_on, held_on}
+use Rattle.kernel_contexts.specs.Guest.{guest_with, guest_of, guest_on}
+use Rattle.core_unit.specs.Held.{Held, held_on}
 use Rattle.core_unit.specs.Owners.{owns_among, are_apart}
 use Rattle.core_unit.specs.Residents.{HasSameLengths}
 use Rattle.core_unit.proofs.Owners.{item, home, threads, item_home, held_still, not_at, other_owns, none_owns, is_owned, other_number}

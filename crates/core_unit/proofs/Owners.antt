@@ -11,7 +11,8 @@ use Rattle.mem_access.specs.declared.bank.Bank.{Bank}
 use Rattle.kernel_contexts.specs.Owner.{is_owner, owns}
 use Rattle.kernel_contexts.specs.Context.{state_with, bank_of, thread_of}
 use Rattle.kernel_contexts.specs.declared.context.Context.{Context}
-use Rattle.core_unit.specs.Guest.{Held, guest_with, guest_of, guest_on, held_of, held_on}
+use Rattle.kernel_contexts.specs.Guest.{guest_with, guest_of, guest_on}
+use Rattle.core_unit.specs.Held.{Held, held_of, held_on}
 use Rattle.core_unit.specs.Owners.{owns_among, are_apart, numbers_of, IsTold, freed}
 
 pub or_first : (a b : Bool) → (a || b) ≡ false → a ≡ false

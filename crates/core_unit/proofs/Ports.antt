@@ -8,7 +8,7 @@ use Rattle.shared_region.specs.Chain.{Chain}
 use Rattle.shared_region.specs.Tickets.{TicketView, IsTicketOf, with_events, Refusals, GivesEvents}
 use Rattle.shared_region.proofs.Chains.{chain_join}
 use Rattle.kernel_contexts.specs.Context.{made_since}
-use Rattle.core_unit.specs.Guest.{Guest}
+use Rattle.kernel_contexts.specs.Guest.{Guest}
 use Rattle.core_unit.specs.Run.{RunsFirst}
 use Rattle.core_unit.specs.declared.run.CoreRun.{CoreRun}
 

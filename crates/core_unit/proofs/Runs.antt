@@ -26,7 +26,7 @@ use Rattle.kernel_contexts.proofs.Several.{nothing_refused}
 use Rattle.kernel_contexts.proofs.Turns.{ends_turned, yields_turned}
 use Rattle.kernel_contexts.specs.Owner.{is_owner}
 use Rattle.core_unit.specs.Course.{Course, Going, GaveWay, HasStopped, course}
-use Rattle.core_unit.specs.Guest.{Guest, next_turn}
+use Rattle.kernel_contexts.specs.Guest.{Guest, next_turn}
 use Rattle.core_unit.specs.Made.{HasMade, waits}
 use Rattle.core_unit.specs.Need.{needs_at, first_need, first_need_of, turns_begun}
 use Rattle.core_unit.specs.Run.{course_at, before_run, answers_of, course_of, RunsFirst, EndsBy, WantsTurn, end_of, end_of_turn}

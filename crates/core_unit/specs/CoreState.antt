@@ -1,7 +1,7 @@
 -- What a core has.
 use Rattle.std.specs.Prelude.{◌≡◌, ◌≢◌, ℕ, ◌+◌, List, [], ◌∷◌, ◌++◌, All, Option, Some, None, length}
 use Rattle.sm_types.specs.declared.config.Config.{Config}
-use Rattle.core_unit.specs.Guest.{Held}
+use Rattle.core_unit.specs.Held.{Held}
 
 -- its number, the options of its threads, the residents, of which the first one makes turns, and the threads
 -- that have stopped

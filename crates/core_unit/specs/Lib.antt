@@ -1,5 +1,5 @@
 pub mod Course
-pub mod Guest
+pub mod Held
 pub mod Run
 pub mod Need
 pub mod Made

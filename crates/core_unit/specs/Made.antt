@@ -10,7 +10,7 @@ use Rattle.kernel_contexts.specs.declared.context.Context.{Context}
 use Rattle.kernel_contexts.specs.declared.context.Turn.{Turn}
 use Rattle.kernel_contexts.specs.declared.context.Turn.TheVariants as turn
 use Rattle.core_unit.specs.Course.{Going}
-use Rattle.core_unit.specs.Guest.{Guest, guest_on}
+use Rattle.kernel_contexts.specs.Guest.{Guest, guest_on}
 use Rattle.core_unit.specs.Need.{first_need_of, need_in_run}
 use Rattle.core_unit.specs.Run.{RunsFirst, course_of, answers_of}
 use Rattle.core_unit.specs.declared.turns.TurnsEnd.{TurnsEnd}

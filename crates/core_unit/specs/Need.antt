@@ -3,7 +3,7 @@ use Rattle.std.specs.Prelude.{◌+◌, Bool, false, cond, ℕ, zero, suc, Option
 use Rattle.sm_types.specs.declared.config.Config.{Config}
 use Rattle.kernel_contexts.specs.Needs.{needs_vectors}
 use Rattle.core_unit.specs.Course.{Course, Going, GaveWay, HasStopped, Unanswered, course}
-use Rattle.core_unit.specs.Guest.{Guest}
+use Rattle.kernel_contexts.specs.Guest.{Guest}
 use Rattle.core_unit.specs.Run.{RunEnd, Spends, GivesWay, Stops, Idles, IsCut, end_of}
 use Rattle.core_unit.specs.Run.{before_run, answers_of}
 use Rattle.core_unit.specs.declared.run.CoreRun.{CoreRun}

@@ -3,7 +3,8 @@ use Rattle.std.specs.Prelude.{◌≡◌, ◌&&◌, ◌||◌, Bool, true, false, 
 use Rattle.std.specs.Prelude.{Option, Some, None}
 use Rattle.kernel_contexts.specs.Owner.{is_owner}
 use Rattle.core_unit.specs.CoreState.{CoreState}
-use Rattle.core_unit.specs.Guest.{Guest, Held}
+use Rattle.kernel_contexts.specs.Guest.{Guest}
+use Rattle.core_unit.specs.Held.{Held}
 use Rattle.core_unit.specs.Need.{need_in_run}
 use Rattle.core_unit.specs.Run.{core_after, is_stop}
 use Rattle.core_unit.specs.declared.run.CoreRun.{CoreRun}

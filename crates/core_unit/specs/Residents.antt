@@ -10,7 +10,7 @@ use Rattle.kernel_contexts.specs.Run.{Reached}
 use Rattle.kernel_contexts.specs.Context.{IsOn}
 use Rattle.kernel_contexts.specs.declared.context.Context.{Context}
 use Rattle.kernel_contexts.specs.declared.whole.Whole.{Whole}
-use Rattle.core_unit.specs.Guest.{Held, held_on, held_of}
+use Rattle.core_unit.specs.Held.{Held, held_on, held_of}
 use Rattle.core_unit.specs.Run.{RunsHeld}
 use Rattle.core_unit.specs.Owners.{owner_after_turns}
 use Rattle.core_unit.specs.declared.resident.Resident.{Resident}

@@ -15,7 +15,8 @@ use Rattle.kernel_contexts.specs.declared.context.Turn.{Turn}
 use Rattle.kernel_contexts.specs.declared.context.Turn.TheVariants as turn
 use Rattle.core_unit.specs.Course.{Course, Going, GaveWay, HasStopped, course}
 use Rattle.core_unit.specs.CoreState.{CoreState}
-use Rattle.core_unit.specs.Guest.{Guest, Held, guest_on, next_turn}
+use Rattle.kernel_contexts.specs.Guest.{Guest, guest_on, next_turn}
+use Rattle.core_unit.specs.Held.{Held}
 use Rattle.core_unit.specs.declared.run.CoreRun.{CoreRun}
 use Rattle.core_unit.specs.declared.run.RunWhy.{RunWhy}
 use Rattle.core_unit.specs.declared.run.RunWhy.TheVariants as why

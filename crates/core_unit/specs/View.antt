@@ -4,7 +4,8 @@ use Rattle.mem_access.specs.declared.bank.Bank.{Bank}
 use Rattle.kernel_contexts.specs.declared.context.Context.{Context}
 use Rattle.kernel_contexts.specs.declared.whole.Whole.{Whole}
 use Rattle.core_unit.specs.CoreState.{CoreState}
-use Rattle.core_unit.specs.Guest.{Held, guest_of, held_of, held_on}
+use Rattle.kernel_contexts.specs.Guest.{guest_of}
+use Rattle.core_unit.specs.Held.{Held, held_of, held_on}
 use Rattle.core_unit.specs.declared.unit.Core.{Core}
 
 -- a whole context

@@ -6,7 +6,7 @@ use Rattle.machine_step.specs.declared.machine.Machine.{Machine}
 use Rattle.kernel_contexts.specs.SaveArea.{ComesBack}
 use Rattle.machine_step.specs.ProcessorState.{VectorState}
 use Rattle.kernel_contexts.specs.State.{State}
-use Rattle.kernel_contexts.specs.Guest.{guest_state, bare_state}
+use Rattle.kernel_contexts.specs.GuestThread.{guest_state, bare_state}
 use Rattle.kernel_contexts.specs.declared.guest.GuestThread.{GuestThread}
 
 -- with other vectors

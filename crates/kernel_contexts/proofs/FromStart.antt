@@ -5,7 +5,7 @@ use Rattle.sm_types.specs.declared.stop.Stop.{Stop}
 use Rattle.shared_region.specs.Tickets.{Refusals}
 use Rattle.kernel_contexts.specs.State.{State}
 use Rattle.kernel_contexts.specs.Turn.{turn_of}
-use Rattle.kernel_contexts.specs.Guest.{guest_events, IsFromStart}
+use Rattle.kernel_contexts.specs.GuestThread.{guest_events, IsFromStart}
 use Rattle.kernel_contexts.specs.Several.{GoesApart}
 use Rattle.mem_access.specs.declared.bank.Bank.{Bank}
 use Rattle.kernel_contexts.specs.Context.{state_of, state_on, stop_of, turn_at, turn_with, vectors_on, made_by, needs_bank_on}

@@ -17,7 +17,7 @@ use Rattle.signal_frames.specs.declared.delivery.FrameStop.{FrameStop}
 use Rattle.signal_frames.specs.declared.delivery.FrameStop.TheVariants.{BadFrame, Memory}
 use Rattle.sm_types.specs.declared.version.Version.{Version}
 use Rattle.sm_types.specs.Options.{version_of}
-use Rattle.kernel_contexts.specs.Guest.{held_state}
+use Rattle.kernel_contexts.specs.GuestThread.{held_state}
 use Rattle.kernel_contexts.specs.Turn.{is_poll_due, is_delivery_due}
 use Rattle.kernel_contexts.specs.Owned.{TurnOwns, effect_writes, instruction_writes, frame_writes, turn_writes}
 use Rattle.kernel_contexts.specs.declared.guest.GuestThread.{GuestThread}

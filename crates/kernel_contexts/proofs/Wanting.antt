@@ -20,7 +20,7 @@ use Rattle.machine_step.specs.ProcessorState.{vector_bytes}
 use Rattle.machine_step.specs.Effect.{effect_of}
 use Rattle.machine_step.specs.Machine.{HasRoomToStep}
 use Rattle.machine_step.specs.declared.machine.Machine.{Machine}
-use Rattle.kernel_contexts.specs.Guest.{held_state, bare_state}
+use Rattle.kernel_contexts.specs.GuestThread.{held_state, bare_state}
 use Rattle.kernel_contexts.specs.Turn.{is_poll_due, is_delivery_due}
 use Rattle.kernel_contexts.specs.declared.guest.GuestThread.{GuestThread}
 use Rattle.kernel_contexts.proofs.Bare.{with_vectors}

@@ -16,7 +16,7 @@ use Rattle.mem_access.specs.declared.bank.Bank.{Bank}
 use Rattle.machine_step.specs.ProcessorState.{VectorState}
 use Rattle.machine_step.specs.declared.machine.Machine.{Machine}
 use Rattle.kernel_contexts.specs.State.{State}
-pub use Rattle.kernel_contexts.specs.Guest.{guest_state, held_state, bare_state, guest_events}
+pub use Rattle.kernel_contexts.specs.GuestThread.{guest_state, held_state, bare_state, guest_events}
 use Rattle.kernel_contexts.specs.SaveArea.{HasLengths, IsFit}
 use Rattle.kernel_contexts.specs.Needs.{needs_vectors}
 use Rattle.kernel_contexts.specs.Wanting.{TurnWants}

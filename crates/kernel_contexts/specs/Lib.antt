@@ -14,8 +14,9 @@ pub mod HandlerRun
 pub mod Standing
 pub mod Needs
 pub mod Owner
-pub mod Guest
+pub mod GuestThread
 pub mod Context
+pub mod Guest
 pub mod Output
 pub mod Watch
 pub mod Asked

@@ -10,7 +10,7 @@ use Rattle.machine_step.specs.declared.machine.Machine.{Machine}
 use Rattle.kernel_contexts.specs.State.{State}
 use Rattle.kernel_contexts.specs.Call.{TurnEnd}
 use Rattle.kernel_contexts.specs.Turn.{turn_of}
-use Rattle.kernel_contexts.specs.Guest.{held_state, guest_events}
+use Rattle.kernel_contexts.specs.GuestThread.{held_state, guest_events}
 use Rattle.kernel_contexts.specs.Owned.{turn_writes}
 use Rattle.kernel_contexts.specs.Wanting.{TurnWants}
 use Rattle.kernel_contexts.specs.Context.{TurnsOver, guest_made, HasFreePlace}

@@ -8,7 +8,7 @@ use Rattle.machine_step.specs.Effect.{Effect, Becomes, effect_of}
 use Rattle.machine_step.specs.Owned.{step_writes}
 use Rattle.signal_frames.specs.Frame.{frame_addresses}
 use Rattle.sm_types.specs.Options.{version_of}
-use Rattle.kernel_contexts.specs.Guest.{held_state}
+use Rattle.kernel_contexts.specs.GuestThread.{held_state}
 use Rattle.kernel_contexts.specs.Turn.{is_poll_due, is_delivery_due}
 use Rattle.kernel_contexts.specs.declared.guest.GuestThread.{GuestThread}
 use Rattle.kernel_contexts.specs.declared.context.Turn.{Turn}

@@ -11,7 +11,7 @@ use Rattle.signal_frames.specs.Frame.{HasFrameRoom}
 use Rattle.sm_types.specs.Options.{version_of}
 use Rattle.kernel_contexts.specs.KernelCall.{write_number, post_number}
 use Rattle.kernel_contexts.specs.State.{State}
-use Rattle.kernel_contexts.specs.Guest.{held_state}
+use Rattle.kernel_contexts.specs.GuestThread.{held_state}
 use Rattle.kernel_contexts.specs.Turn.{is_poll_due, is_delivery_due}
 use Rattle.kernel_contexts.specs.declared.guest.GuestThread.{GuestThread}
 

@@ -1,7 +1,7 @@
 //! Contexts and their turns.
 ghost use Rattle.std.specs.Prelude.{◌≡◌, ◌<◌, [], length, None, Some, IfOk};
 ghost use Rattle.std.specs.Prelude.{true, false, ℕ, slice_get};
-ghost use Rattle.kernel_contexts.specs.Guest.{IsFromStart, IsHomeRun, one_home_run};
+ghost use Rattle.kernel_contexts.specs.GuestThread.{IsFromStart, IsHomeRun, one_home_run};
 ghost use Rattle.kernel_contexts.specs.SaveArea.{IsSaveArea};
 ghost use Rattle.kernel_contexts.specs.Owner.{owns};
 

@@ -97,7 +97,7 @@ impl GuestThread {
     ghost use Rattle.kernel_contexts.specs.Context.{held_state, bare_state, guest_turn, guest_instruction};
     ghost use Rattle.kernel_contexts.specs.SaveArea.{IsFit, ComesBack};
     ghost use Rattle.mem_access.specs.VectorState.{zero_bank};
-    ghost use Rattle.kernel_contexts.specs.Guest.{guest_state, guest_events, IsFromStart};
+    ghost use Rattle.kernel_contexts.specs.GuestThread.{guest_state, guest_events, IsFromStart};
     ghost use Rattle.std.specs.Prelude.{◌&&◌, ◌==◌, slice_index};
     ghost use Rattle.kernel_contexts.specs.KernelCall.{return_number};
     ghost use Rattle.kernel_contexts.specs.Needs.{needs_vectors, instruction_needs};

@@ -4,7 +4,7 @@ use Rattle.std.specs.Prelude.{OnOk, is_ok}
 use Rattle.std.proofs.lemmas.List.Elements.{All-append, All-cons, All-nil}
 use Rattle.sm_types.specs.declared.config.Config.{Config}
 use Rattle.core_unit.specs.CoreState.{CoreState, IsAbsent, empty_core, with_last}
-use Rattle.core_unit.specs.Guest.{Held}
+use Rattle.core_unit.specs.Held.{Held}
 
 -- what holds with Ok
 pub where_ok : {A E : Type 0} (r : Result A E) (P : Type 0) → is_ok r ≡ true → OnOk r P → P

@@ -11,7 +11,7 @@ use Rattle.shared_region.specs.History.{AreOneHistory, part_of}
 use Rattle.paged_memory.specs.Image.{Program}
 use Rattle.kernel_contexts.specs.Standing.{IsRunOf}
 use Rattle.kernel_contexts.specs.declared.context.Context.{Context}
-use Rattle.core_unit.specs.Guest.{guest_of}
+use Rattle.kernel_contexts.specs.Guest.{guest_of}
 use Rattle.sm_types.specs.declared.world_event.WorldEvent.{WorldEvent}
 use Rattle.report_text.specs.Ends.{ends_of}
 use Rattle.report_text.specs.Report.{ThreadEnd}

@@ -11,7 +11,7 @@ use Rattle.sm_types.specs.declared.numbers.Numbers.{Numbers}
 use Rattle.paged_memory.specs.Image.{Program}
 use Rattle.elf_loader.specs.Loading.{Loads}
 use Rattle.kernel_contexts.specs.Standing.{IsRunOf}
-use Rattle.core_unit.specs.Guest.{Guest}
+use Rattle.kernel_contexts.specs.Guest.{Guest}
 use Rattle.plan_reader.specs.Plan.{plan_in, event_lines}
 use Rattle.sm_types.specs.declared.world_event.WorldEvent.{WorldEvent}
 use Rattle.world_core.specs.Happens.{world_after, answers_after}

@@ -5,7 +5,7 @@ use Rattle.std.proofs.lemmas.Option.{same_Some, none-some}
 use Rattle.sm_types.specs.declared.config.Config.{Config}
 use Rattle.sm_types.specs.declared.shared_words.Words.{Words}
 use Rattle.paged_memory.specs.Image.{Program}
-use Rattle.core_unit.specs.Guest.{Guest}
+use Rattle.kernel_contexts.specs.Guest.{Guest}
 use Rattle.sm_types.specs.declared.world_event.WorldEvent.{WorldEvent}
 use Rattle.report_text.specs.Report.{ThreadEnd}
 use Rattle.world_core.specs.Happens.{happens}

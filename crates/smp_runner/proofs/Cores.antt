@@ -11,7 +11,7 @@ use Rattle.shared_region.specs.Tickets.{TicketView, Refusals, IsAllowed}
 use Rattle.kernel_contexts.specs.Call.{TurnEnd, Goes, Yields, Asks, Ends}
 use Rattle.kernel_contexts.specs.Context.{AsksFor}
 use Rattle.core_unit.specs.CoreState.{CoreState, with_first, with_last, with_done, IsAbsent, BelongTo}
-use Rattle.core_unit.specs.Guest.{Held}
+use Rattle.core_unit.specs.Held.{Held}
 use Rattle.core_unit.specs.Run.{RunsCore, RunsWith, RunsHeld, EndsBy, end_of, is_stop, core_after}
 use Rattle.core_unit.specs.declared.run.CoreRun.{CoreRun}
 use Rattle.core_unit.specs.declared.run.RunWhy.{RunWhy}

@@ -5,7 +5,7 @@ use Rattle.sm_types.specs.declared.config.Config.{Config}
 use Rattle.shared_region.specs.Tickets.{TicketView}
 use Rattle.kernel_contexts.specs.declared.whole.Whole.{Whole}
 use Rattle.core_unit.specs.CoreState.{CoreState}
-use Rattle.core_unit.specs.Guest.{Held}
+use Rattle.core_unit.specs.Held.{Held}
 use Rattle.run_queue.specs.declared.origin.Origin.{Origin}
 use Rattle.run_queue.specs.declared.view.PassView.{PassView}
 use Rattle.run_queue.specs.Ticketed.{Ticketed, ticketed, origin_from}

@@ -5,7 +5,8 @@ use Rattle.std.proofs.lemmas.Bool.Decides.{nat_tests}
 use Rattle.std.proofs.lemmas.List.Elements.{All-cons, All-nil}
 use Rattle.std.proofs.lemmas.Option.{same_Some, none-some}
 use Rattle.core_unit.specs.CoreState.{places}
-use Rattle.core_unit.specs.Guest.{Guest, Held}
+use Rattle.kernel_contexts.specs.Guest.{Guest}
+use Rattle.core_unit.specs.Held.{Held}
 use Rattle.core_unit.specs.declared.run.RunWhy.{RunWhy}
 use Rattle.core_unit.specs.declared.run.RunWhy.TheVariants as why
 use Rattle.world_core.specs.Applies.{Applies, RunsBy, Comes, LetsMore, spends}

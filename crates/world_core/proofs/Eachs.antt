@@ -2,7 +2,7 @@
 use Rattle.std.proofs.Common.{◌≡◌, ◌≢◌, ℕ, zero, suc, ◌++◌, List, [], ◌∷◌, subst, arith, Some}
 use Rattle.std.specs.Prelude.{slice_get, slice_set, replicate}
 use Rattle.std.proofs.lemmas.Option.{same_Some, none-some}
-use Rattle.core_unit.specs.Guest.{Guest}
+use Rattle.kernel_contexts.specs.Guest.{Guest}
 use Rattle.std.specs.List.{AllByRecursion as Each}
 use Rattle.world_core.specs.World.{World, threads_of, residents_of, times}
 use Rattle.world_core.proofs.Bags.{other_number}

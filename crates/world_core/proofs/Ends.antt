@@ -16,7 +16,7 @@ use Rattle.kernel_contexts.specs.State.{State}
 use Rattle.kernel_contexts.specs.declared.context.Context.{Context}
 use Rattle.lone_runner.specs.LoneRun.{IsLoneRun, HasRunAlone, HaveRun}
 use Rattle.lone_runner.proofs.Few.{few_under_way}
-use Rattle.core_unit.specs.Guest.{Guest, guest_of}
+use Rattle.kernel_contexts.specs.Guest.{Guest, guest_of}
 use Rattle.world_core.specs.Finish.{AreThreadsOf}
 use Rattle.world_core.specs.Kept.{Stands, IsKept, HasStopped}
 use Rattle.world_core.specs.World.{World, threads_of}

@@ -10,7 +10,7 @@ use Rattle.std.proofs.lemmas.List.Sorted.{IsPermutation-sym, IsPermutation-map, 
 use Rattle.std.proofs.lemmas.Option.{same_Some, slice_get-map, slice_get-get_or, slice_get_within}
 use Rattle.kernel_contexts.specs.Context.{thread_of, is_home}
 use Rattle.kernel_contexts.specs.declared.context.Context.{Context}
-use Rattle.core_unit.specs.Guest.{Guest, guest_of}
+use Rattle.kernel_contexts.specs.Guest.{Guest, guest_of}
 use Rattle.thread_lists.specs.Counts.{total, once_below}
 use Rattle.thread_lists.proofs.Sums.{total-append}
 use Rattle.world_core.specs.Finish.{IsPlaced}

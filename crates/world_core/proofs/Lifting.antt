@@ -3,7 +3,7 @@ use Rattle.std.proofs.Common.{◌≡◌, ℕ, zero, suc, ◌≤◌, List, [], �
 use Rattle.std.specs.Prelude.{slice_get, slice_set}
 use Rattle.std.proofs.lemmas.Option.{same_Some, none-some, slice_get_past}
 use Rattle.sm_types.specs.declared.shared_words.Entry.{Entry}
-use Rattle.core_unit.specs.Guest.{Guest}
+use Rattle.kernel_contexts.specs.Guest.{Guest}
 use Rattle.core_unit.specs.declared.run.RunWhy.{RunWhy}
 use Rattle.core_unit.specs.declared.run.RunWhy.TheVariants as why
 use Rattle.world_core.specs.Applies.{Applies, AppliesHere, RunsBy, spends}

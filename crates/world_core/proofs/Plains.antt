@@ -9,7 +9,8 @@ use Rattle.shared_region.specs.Tickets.{Refusals}
 use Rattle.kernel_contexts.specs.Call.{TurnEnd, Goes, Yields, Asks, Ends}
 use Rattle.kernel_contexts.specs.Context.{AsksFor}
 use Rattle.core_unit.specs.CoreState.{CoreState, with_done}
-use Rattle.core_unit.specs.Guest.{Guest, Held}
+use Rattle.kernel_contexts.specs.Guest.{Guest}
+use Rattle.core_unit.specs.Held.{Held}
 use Rattle.core_unit.specs.Run.{RunsFirst, RunsWith, RunsCore, EndsBy, answers_of, is_stop, end_of, core_after}
 use Rattle.core_unit.specs.declared.run.CoreRun.{CoreRun}
 use Rattle.core_unit.specs.declared.run.RunWhy.{RunWhy}

@@ -7,7 +7,7 @@ use Rattle.std.proofs.lemmas.Option.{none-some}
 use Rattle.sm_types.specs.declared.config.Config.{Config}
 use Rattle.paged_memory.specs.Image.{Program}
 use Rattle.core_unit.specs.CoreState.{places}
-use Rattle.core_unit.specs.Guest.{Guest}
+use Rattle.kernel_contexts.specs.Guest.{Guest}
 use Rattle.core_unit.specs.declared.run.RunWhy.{RunWhy}
 use Rattle.core_unit.specs.declared.run.RunWhy.TheVariants as why
 use Rattle.world_core.specs.Happens.{Scene, happens, happens_on, next_of, fetched, offer_of, run_of, after_service}

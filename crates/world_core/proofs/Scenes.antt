@@ -5,7 +5,8 @@ use Rattle.std.proofs.lemmas.Bool.Decides.{nat_tests}
 use Rattle.std.proofs.lemmas.List.{map-append}
 use Rattle.sm_types.specs.declared.shared_words.Entry.{Entry}
 use Rattle.core_unit.specs.CoreState.{CoreState, places, turned_over, with_next, with_last, with_first}
-use Rattle.core_unit.specs.Guest.{Guest, Held}
+use Rattle.kernel_contexts.specs.Guest.{Guest}
+use Rattle.core_unit.specs.Held.{Held}
 use Rattle.world_core.specs.Applies.{AppliesHere}
 use Rattle.world_core.specs.Happens.{Scene, on_core, next_of, fetched, refused, becomes, offer_of}
 use Rattle.world_core.specs.Parts.{guests_in, scene_with}

@@ -14,7 +14,7 @@ use Rattle.kernel_contexts.specs.Call.{TurnEnd, Goes, Yields, Asks, Ends}
 use Rattle.kernel_contexts.specs.Turn.{turn_of}
 use Rattle.kernel_contexts.proofs.Turns.{goes_turned, yields_turned, asks_turned}
 use Rattle.core_unit.specs.CoreState.{places}
-use Rattle.core_unit.specs.Guest.{Guest}
+use Rattle.kernel_contexts.specs.Guest.{Guest}
 use Rattle.world_core.specs.Events.{core_number}
 use Rattle.world_core.specs.Happens.{Scene, Outcome, Happened, happens, on_core, next_of, fetched, offer_of}
 use Rattle.world_core.specs.Happens.{after_service, refused, with_scene, scene_of, comes_to, world_after}

@@ -9,7 +9,7 @@ use Rattle.paged_memory.specs.Image.{Program}
 use Rattle.kernel_contexts.specs.State.{start_state}
 use Rattle.kernel_contexts.specs.Context.{image_of, config_of, thread_of, state_of, stop_of, journal_of}
 use Rattle.kernel_contexts.specs.declared.context.Context.{Context}
-use Rattle.core_unit.specs.Guest.{Guest, guest_of}
+use Rattle.kernel_contexts.specs.Guest.{Guest, guest_of}
 use Rattle.world_core.specs.World.{starting}
 
 pub guest_starts : (c : Context) (program : Program) (config : Config) (thread : ℕ) → image_of c ≡ program → config_of c ≡ config

@@ -15,7 +15,7 @@ use Rattle.paged_memory.specs.Image.{Program}
 use Rattle.kernel_contexts.specs.State.{start_state}
 use Rattle.kernel_contexts.proofs.Kept.{run_begins}
 use Rattle.core_unit.specs.CoreState.{places}
-use Rattle.core_unit.specs.Guest.{Guest}
+use Rattle.kernel_contexts.specs.Guest.{Guest}
 use Rattle.world_core.specs.Events.{core_number}
 use Rattle.world_core.specs.Happens.{Scene, happens, happens_on, on_core, run_of, next_of, fetch_of, fetched, offer_of}
 use Rattle.world_core.specs.Happens.{after_service, moved, refused, with_scene, scene_of, world_after}

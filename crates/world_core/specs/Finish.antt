@@ -4,7 +4,7 @@ use Rattle.sm_types.specs.declared.shared_words.Words.{Words}
 use Rattle.shared_region.specs.History.{ends_in}
 use Rattle.kernel_contexts.specs.Context.{thread_of, is_home}
 use Rattle.kernel_contexts.specs.declared.context.Context.{Context}
-use Rattle.core_unit.specs.Guest.{Guest, guest_of}
+use Rattle.kernel_contexts.specs.Guest.{Guest, guest_of}
 use Rattle.world_core.specs.World.{World, threads_of}
 
 -- a context is the thread of that number among some, and home

@@ -4,7 +4,7 @@ use Rattle.std.specs.Prelude.{slice_get, slice_set}
 use Rattle.sm_types.specs.declared.shared_words.Entry.{Entry}
 use Rattle.sm_types.specs.declared.stop.Stop.{Stop}
 use Rattle.core_unit.specs.CoreState.{places}
-use Rattle.core_unit.specs.Guest.{Guest}
+use Rattle.kernel_contexts.specs.Guest.{Guest}
 use Rattle.core_unit.specs.declared.run.RunWhy.{RunWhy}
 use Rattle.core_unit.specs.declared.run.RunWhy.TheVariants.{Spent, Yielded, Stopped}
 use Rattle.world_core.specs.Events.{core_number}

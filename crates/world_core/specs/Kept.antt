@@ -6,7 +6,7 @@ use Rattle.sm_types.specs.declared.shared_words.Entry.{Entry}
 use Rattle.shared_region.specs.History.{IsLegal, part_of}
 use Rattle.paged_memory.specs.Image.{Program}
 use Rattle.kernel_contexts.specs.Standing.{IsRunOf}
-use Rattle.core_unit.specs.Guest.{Guest}
+use Rattle.kernel_contexts.specs.Guest.{Guest}
 use Rattle.world_core.specs.World.{World, threads_of, residents_of, IsOwned}
 
 -- a thread of a world with these options and this history has its program and its options, its journal is its

@@ -5,7 +5,8 @@ use Rattle.sm_types.specs.declared.shared_words.Entry.{Entry}
 use Rattle.kernel_contexts.specs.Context.{config_of}
 use Rattle.kernel_contexts.specs.declared.whole.Whole.{Whole}
 use Rattle.core_unit.specs.CoreState.{CoreState}
-use Rattle.core_unit.specs.Guest.{Guest, Held, guest_of}
+use Rattle.kernel_contexts.specs.Guest.{Guest, guest_of}
+use Rattle.core_unit.specs.Held.{Held}
 use Rattle.core_unit.specs.View.{core_state}
 use Rattle.core_unit.specs.declared.unit.Core.{Core}
 use Rattle.world_core.specs.Happens.{Scene}

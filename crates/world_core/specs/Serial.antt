@@ -8,7 +8,7 @@ use Rattle.sm_types.specs.declared.shared_words.Words.{Words}
 use Rattle.paged_memory.specs.Image.{Program}
 use Rattle.kernel_contexts.specs.declared.context.Context.{Context}
 use Rattle.core_unit.specs.CoreState.{places}
-use Rattle.core_unit.specs.Guest.{Guest}
+use Rattle.kernel_contexts.specs.Guest.{Guest}
 use Rattle.core_unit.specs.declared.run.RunWhy.{RunWhy}
 use Rattle.core_unit.specs.declared.run.RunWhy.TheVariants as why
 use Rattle.world_core.specs.Happens.{happens}

@@ -7,7 +7,7 @@ use Rattle.sm_types.specs.declared.shared_words.Entry.{Entry}
 use Rattle.paged_memory.specs.Image.{Program}
 use Rattle.kernel_contexts.specs.State.{start_state}
 use Rattle.thread_lists.specs.Counts.{total, once_below}
-use Rattle.core_unit.specs.Guest.{Guest}
+use Rattle.kernel_contexts.specs.Guest.{Guest}
 
 -- the options, the queue, the residents of each core, of which the first one makes turns, the threads that
 -- are done, each a guest thread with its state and its journal, and the history of the shared words

@@ -3,7 +3,7 @@ ghost use Rattle.std.specs.Prelude.{◌≡◌, ◌<◌, ℕ, List, Some, vec_len
 ghost use Rattle.sm_types.specs.declared.shared_words.Entry.{Entry};
 ghost use Rattle.kernel_contexts.specs.Context.{thread_of};
 ghost use Rattle.core_unit.specs.CoreState.{IsAbsent};
-ghost use Rattle.core_unit.specs.Guest.{Guest};
+ghost use Rattle.kernel_contexts.specs.Guest.{Guest};
 ghost use Rattle.core_unit.specs.View.{core_state};
 ghost use Rattle.world_core.specs.Applies.{AppliesHere};
 ghost use Rattle.world_core.specs.Parts.{HaveOptions, guests_of, scene_in};

@@ -33,7 +33,7 @@ impl GuestThread {
     ghost use Rattle.kernel_contexts.specs.Turn.{poll_of};
     ghost use Rattle.kernel_contexts.specs.Asked.{Asked, Refuses, with_place};
     ghost use Rattle.kernel_contexts.specs.Context.{bare_state, guest_made, IsQuietGuest, TurnsOver};
-    ghost use Rattle.kernel_contexts.specs.Guest.{guest_state, guest_events};
+    ghost use Rattle.kernel_contexts.specs.GuestThread.{guest_state, guest_events};
     ghost use Rattle.machine_step.specs.ProcessorState.{VectorState};
     ghost use Rattle.kernel_contexts.specs.Context.{Grows, HasFreePlace, GoesOrAsks};
 

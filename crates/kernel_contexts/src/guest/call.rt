@@ -111,7 +111,7 @@ impl GuestThread {
     ghost use Rattle.kernel_contexts.specs.KernelCall.{call_numbered, write_number};
     ghost use Rattle.sm_types.specs.Options.{version_of};
     ghost use Rattle.kernel_contexts.specs.Turn.{outside_streaming};
-    ghost use Rattle.kernel_contexts.specs.Guest.{guest_events};
+    ghost use Rattle.kernel_contexts.specs.GuestThread.{guest_events};
     ghost use Rattle.kernel_contexts.specs.Context.{held_state, guest_call, Takes, IsQuietGuest};
     ghost use Rattle.kernel_contexts.specs.SaveArea.{IsFit, ComesBack};
     ghost use Rattle.kernel_contexts.specs.Context.{GuestTurns, Grows, HasFreePlace, GoesOrAsks};

@@ -48,7 +48,7 @@ fn scalars_of(state: &LooseState, config: &Config) -> Scalars
 }
 
 impl GuestThread {
-    ghost use Rattle.kernel_contexts.specs.Guest.{guest_state, guest_events};
+    ghost use Rattle.kernel_contexts.specs.GuestThread.{guest_state, guest_events};
     ghost use Rattle.kernel_contexts.specs.LooseState.{HasScalars, HasPages, HasKernel};
     ghost use Rattle.kernel_contexts.specs.LooseState.{is_streaming, is_array_on};
     ghost use Rattle.machine_step.specs.ProcessorState.{VectorState};

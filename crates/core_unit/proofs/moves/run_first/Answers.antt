@@ -5,7 +5,8 @@ use Rattle.shared_region.specs.Tickets.{GivesEvents}
 use Rattle.kernel_contexts.specs.Owner.{is_owner}
 use Rattle.kernel_contexts.specs.Context.{thread_of}
 use Rattle.core_unit.specs.CoreState.{first_number}
-use Rattle.core_unit.specs.Guest.{Held, guest_on, held_on}
+use Rattle.kernel_contexts.specs.Guest.{guest_on}
+use Rattle.core_unit.specs.Held.{Held, held_on}
 use Rattle.core_unit.specs.Need.{need_in_run}
 use Rattle.core_unit.specs.Owners.{are_apart, numbers_of, moved}
 use Rattle.core_unit.specs.Run.{RunsFirst, answers_of}

@@ -1,7 +1,7 @@
 use Rattle.std.proofs.Common.{◌≡◌, ◌+◌, refl, sym, ap, ◌∙◌, arith, add-one}
 use Rattle.std.specs.Prelude.{not}
 use Rattle.kernel_contexts.specs.Context.{owns, thread_of, config_of, state_on, journal_of, stop_of, made_by}
-use Rattle.core_unit.specs.Guest.{guest_on}
+use Rattle.kernel_contexts.specs.Guest.{guest_on}
 use Rattle.core_unit.specs.Need.{first_need_of}
 use Rattle.kernel_contexts.proofs.Nothing.{gives_none}
 use Rattle.core_unit.proofs.Ports.{gives_more, ticket_stays, ticket_kept, gives_kept, refuses_there}

@@ -2,7 +2,7 @@ use Rattle.std.proofs.Common.{◌-◌, ◌≡◌, ◌≤◌, false, None}
 use Rattle.shared_region.specs.Tickets.{IsTicketOf, GivesEvents}
 use Rattle.machine_step.specs.Machine.{IsSameBank}
 use Rattle.kernel_contexts.specs.Context.{IsOn, owns, thread_of, made_by, stop_of, IsSameThread}
-use Rattle.core_unit.specs.Guest.{guest_on}
+use Rattle.kernel_contexts.specs.Guest.{guest_on}
 use Rattle.core_unit.specs.Need.{first_need_of}
 use Rattle.core_unit.proofs.Runs.{HasRun}
 use Rattle.core_unit.proofs.turns.make_turns.Given as goal

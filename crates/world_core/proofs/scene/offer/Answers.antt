@@ -4,7 +4,7 @@ use Rattle.std.proofs.lemmas.List.{map-append}
 use Rattle.shared_region.specs.Ports.{PlainEvents}
 use Rattle.kernel_contexts.specs.Context.{config_of}
 use Rattle.core_unit.specs.CoreState.{CoreState}
-use Rattle.core_unit.specs.Guest.{guest_of}
+use Rattle.kernel_contexts.specs.Guest.{guest_of}
 use Rattle.core_unit.specs.View.{core_state, held_by}
 use Rattle.core_unit.proofs.Cores.{each_snoc}
 use Rattle.world_core.specs.Applies.{AppliesHere}

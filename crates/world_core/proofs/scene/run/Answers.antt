@@ -1,7 +1,7 @@
 use Rattle.std.proofs.Common.{◌<◌, ◌∷◌, [], length, map, refl, ap, sym, ◌∙◌, arith}
 use Rattle.std.proofs.lemmas.List.{map-append}
 use Rattle.shared_region.specs.History.{entries_of}
-use Rattle.core_unit.specs.Guest.{guest_of}
+use Rattle.kernel_contexts.specs.Guest.{guest_of}
 use Rattle.core_unit.specs.View.{core_state, held_by}
 use Rattle.world_core.specs.Parts.{guests_of, scene_with}
 use Rattle.sm_types.specs.declared.world_event.WorldEvent.TheVariants as event

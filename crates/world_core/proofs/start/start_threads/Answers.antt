@@ -1,7 +1,7 @@
 use Rattle.std.proofs.Common.{◌≡◌, ap, sym, ◌∙◌, arith}
 use Rattle.std.specs.Prelude.{slice_get}
 use Rattle.kernel_contexts.specs.Context.{config_of}
-use Rattle.core_unit.specs.Guest.{guest_of}
+use Rattle.kernel_contexts.specs.Guest.{guest_of}
 use Rattle.core_unit.proofs.Cores.{each_snoc}
 use Rattle.world_core.specs.World.{starting}
 use Rattle.world_core.proofs.Starts.{guest_starts, starts_more}

@@ -2,7 +2,7 @@ use Rattle.std.proofs.Common.{◌≡◌, ◌<◌, ◌+◌, ◌∷◌, [], ◌++�
 use Rattle.std.specs.Prelude.{slice_get}
 use Rattle.sm_types.specs.declared.config.Config.{Config}
 use Rattle.kernel_contexts.specs.Context.{IsOn}
-use Rattle.core_unit.specs.Guest.{held_on}
+use Rattle.core_unit.specs.Held.{held_on}
 use Rattle.core_unit.specs.Owners.{IsTold}
 use Rattle.core_unit.specs.View.{held_by, core_state}
 use Rattle.core_unit.proofs.Cores.{each_snoc}

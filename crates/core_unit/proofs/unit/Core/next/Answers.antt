@@ -2,7 +2,7 @@ use Rattle.std.proofs.Common.{◌≡◌, ◌<◌, ◌∷◌, [], ◌++◌, lengt
 use Rattle.std.specs.Prelude.{remove, slice_get}
 use Rattle.std.proofs.lemmas.Grind.{common_steps}
 use Rattle.kernel_contexts.specs.Context.{IsOn}
-use Rattle.core_unit.specs.Guest.{held_on}
+use Rattle.core_unit.specs.Held.{held_on}
 use Rattle.core_unit.specs.Owners.{IsTold}
 use Rattle.core_unit.proofs.Cores.{cons_of, first_of, each_rest, each_snoc}
 use Rattle.core_unit.proofs.Owners.{item, told_turned, held_more}

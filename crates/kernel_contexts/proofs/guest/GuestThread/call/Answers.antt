@@ -8,7 +8,7 @@ use Rattle.kernel_contexts.specs.declared.kernel_call.KernelCall.{KernelCall}
 use Rattle.kernel_contexts.specs.declared.kernel_call.KernelCall.TheVariants.{Post}
 use Rattle.kernel_contexts.specs.Turn.{outside_streaming}
 use Rattle.kernel_contexts.specs.Call.{post_of}
-use Rattle.kernel_contexts.specs.Guest.{guest_events}
+use Rattle.kernel_contexts.specs.GuestThread.{guest_events}
 use Rattle.kernel_contexts.specs.Context.{guest_call, held_state}
 use Rattle.kernel_contexts.proofs.Answered.{asked_nothing, made_nothing}
 use Rattle.kernel_contexts.proofs.Over.{turned_so}

@@ -4,7 +4,7 @@ use Rattle.sm_types.specs.declared.stop.Stop.{Stop}
 use Rattle.std.proofs.Common.{Option}
 use Rattle.mem_access.specs.declared.bank.Bank.{Bank}
 use Rattle.kernel_contexts.specs.Call.{TurnEnd, called}
-use Rattle.kernel_contexts.specs.Guest.{guest_events}
+use Rattle.kernel_contexts.specs.GuestThread.{guest_events}
 use Rattle.kernel_contexts.specs.Context.{Takes, Turns, guest_call, held_state}
 use Rattle.kernel_contexts.specs.KernelCall.{call_numbered}
 use Rattle.kernel_contexts.specs.State.{State}

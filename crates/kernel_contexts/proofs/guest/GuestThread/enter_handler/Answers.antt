@@ -1,7 +1,7 @@
 use Rattle.std.proofs.Common.{◌≡◌, ◌+◌, ◌-◌, ◌*◌, ◌^◌, ◌<◌, ◌≤◌, true, refl, ap, sym, ◌∙◌, subst, arith}
 use Rattle.sm_types.specs.declared.config.Config.{Config}
 use Rattle.kernel_contexts.specs.State.{State}
-use Rattle.kernel_contexts.specs.Guest.{bare_state}
+use Rattle.kernel_contexts.specs.GuestThread.{bare_state}
 use Rattle.kernel_contexts.specs.Watch.{waiting}
 use Rattle.sm_types.specs.Options.{version_of}
 use Rattle.kernel_contexts.proofs.Signals.{waiting_more, waiting_small, none_inside}

@@ -12,7 +12,7 @@ use Rattle.kernel_contexts.specs.Call.{Ends, call_of}
 use Rattle.kernel_contexts.specs.Turn.{outside_streaming}
 use Rattle.shared_region.specs.Tickets.{Refusals}
 use Rattle.kernel_contexts.specs.KernelCall.{return_number}
-use Rattle.kernel_contexts.specs.Guest.{guest_events}
+use Rattle.kernel_contexts.specs.GuestThread.{guest_events}
 use Rattle.kernel_contexts.specs.Context.{held_state, guest_instruction, guest_made, made_since, TurnsOver}
 use Rattle.kernel_contexts.proofs.Bare.{with_vectors}
 use Rattle.kernel_contexts.proofs.Turns.{executes_raises, executes_calls}

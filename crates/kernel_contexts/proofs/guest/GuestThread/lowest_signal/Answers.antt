@@ -1,6 +1,6 @@
 use Rattle.std.proofs.Common.{ap, ◌∙◌}
 use Rattle.std.specs.Int.{w64, trailing_zeros, bit_at}
-use Rattle.kernel_contexts.specs.Guest.{bare_state}
+use Rattle.kernel_contexts.specs.GuestThread.{bare_state}
 use Rattle.kernel_contexts.specs.Turn.{lowest_signal}
 use Rattle.kernel_contexts.proofs.Signals.{at_least, lowest_open}
 use Rattle.kernel_contexts.proofs.Watched.{IsDue, due_so}

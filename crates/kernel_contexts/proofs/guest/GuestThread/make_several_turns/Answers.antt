@@ -4,7 +4,7 @@ use Rattle.mem_access.specs.Bank.{bank_state}
 use Rattle.machine_step.specs.Machine.{core_of}
 use Rattle.machine_step.specs.declared.machine.Machine.{Machine}
 use Rattle.kernel_contexts.specs.State.{State}
-use Rattle.kernel_contexts.specs.Guest.{guest_events}
+use Rattle.kernel_contexts.specs.GuestThread.{guest_events}
 use Rattle.kernel_contexts.specs.Context.{held_state}
 use Rattle.kernel_contexts.specs.Several.{GoesApart}
 use Rattle.kernel_contexts.proofs.Bare.{with_vectors, back_with}

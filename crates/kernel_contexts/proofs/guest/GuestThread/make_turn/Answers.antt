@@ -3,7 +3,7 @@ use Rattle.std.specs.Prelude.{◌&&◌}
 use Rattle.mem_access.specs.Bank.{bank_state}
 use Rattle.kernel_contexts.specs.State.{State}
 use Rattle.kernel_contexts.specs.Turn.{turn_of}
-use Rattle.kernel_contexts.specs.Guest.{guest_events}
+use Rattle.kernel_contexts.specs.GuestThread.{guest_events}
 use Rattle.kernel_contexts.specs.Context.{guest_turn, guest_instruction, held_state, made_since}
 use Rattle.kernel_contexts.proofs.Answered.{made_nothing}
 use Rattle.kernel_contexts.proofs.Apart.{unless_as, unless_so, needed_so, over_as, needs_executes}

@@ -2,7 +2,7 @@ use Rattle.std.proofs.Common.{◌≡◌, true, false, ap, sym, ◌∙◌}
 use Rattle.sm_types.specs.declared.stop.Stop.TheVariants.{Budget}
 use Rattle.kernel_contexts.specs.Call.{Ends}
 use Rattle.kernel_contexts.specs.Turn.{is_poll_due, is_delivery_due, poll_of, delivery_of}
-use Rattle.kernel_contexts.specs.Guest.{guest_events}
+use Rattle.kernel_contexts.specs.GuestThread.{guest_events}
 use Rattle.kernel_contexts.specs.Context.{guest_turn, guest_instruction, held_state}
 use Rattle.kernel_contexts.proofs.Answered.{stops_so, asked_nothing, made_nothing}
 use Rattle.mem_access.specs.Bank.{bank_state}

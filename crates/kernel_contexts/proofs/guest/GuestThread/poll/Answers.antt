@@ -4,11 +4,11 @@ use Rattle.kernel_contexts.specs.Watch.{waiting}
 use Rattle.kernel_contexts.proofs.Signals.{waiting_some}
 use Rattle.kernel_contexts.specs.State.{State}
 use Rattle.kernel_contexts.specs.Turn.{poll_op, polled_with}
-use Rattle.kernel_contexts.specs.Guest.{guest_state, bare_state, no_vectors}
+use Rattle.kernel_contexts.specs.GuestThread.{guest_state, bare_state, no_vectors}
 use Rattle.kernel_contexts.proofs.Bare.{with_vectors}
 use Rattle.std.specs.Prelude.{Err}
 use Rattle.kernel_contexts.specs.Asked.{Asked, with_place}
-use Rattle.kernel_contexts.specs.Guest.{guest_events}
+use Rattle.kernel_contexts.specs.GuestThread.{guest_events}
 use Rattle.kernel_contexts.specs.Context.{made_since, HasFreePlace}
 use Rattle.kernel_contexts.specs.declared.guest.asking.Refusal.{Refusal}
 use Rattle.kernel_contexts.specs.declared.guest.asking.Refusal.TheVariants.{Port}

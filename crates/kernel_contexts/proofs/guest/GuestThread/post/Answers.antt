@@ -9,7 +9,7 @@ use Rattle.shared_region.specs.declared.port.PortStop.TheVariants.{Memory}
 use Rattle.kernel_contexts.specs.State.{State}
 use Rattle.kernel_contexts.specs.Turn.{outside_streaming}
 use Rattle.kernel_contexts.specs.Call.{Goes, asking, may_post, post_op, post_of, returned}
-use Rattle.kernel_contexts.specs.Guest.{guest_events}
+use Rattle.kernel_contexts.specs.GuestThread.{guest_events}
 use Rattle.kernel_contexts.specs.Context.{held_state, made_since, HasFreePlace}
 use Rattle.kernel_contexts.proofs.Answered.{asked_nothing, made_nothing}
 use Rattle.kernel_contexts.proofs.Calls.{post_asks, post_fails}

@@ -3,7 +3,8 @@ use Rattle.std.specs.Prelude.{All}
 use Rattle.std.proofs.lemmas.List.Elements.{All-nil}
 use Rattle.std.proofs.lemmas.Grind.{common_steps}
 use Rattle.shared_region.specs.Ports.{PlainEvents}
-use Rattle.core_unit.specs.Guest.{Held, guest_of}
+use Rattle.kernel_contexts.specs.Guest.{guest_of}
+use Rattle.core_unit.specs.Held.{Held}
 use Rattle.core_unit.specs.View.{core_state}
 use Rattle.kernel_contexts.specs.Context.{thread_of}
 use Rattle.world_core.specs.Parts.{IsCoreOf, guests_of, core_guests}

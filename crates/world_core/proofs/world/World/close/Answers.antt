@@ -1,6 +1,6 @@
 use Rattle.std.proofs.Common.{◌++◌, ◌∷◌, [], if◌then◌else◌, map, length, not, ap, sym, ◌∙◌}
 use Rattle.std.proofs.lemmas.List.{map-append, length-map}
-use Rattle.core_unit.specs.Guest.{guest_of}
+use Rattle.kernel_contexts.specs.Guest.{guest_of}
 use Rattle.world_core.specs.Parts.{guests_of, core_guests}
 use Rattle.world_core.specs.World.{residents_of}
 use Rattle.world_core.specs.View.{world_of}
