@@ -15,7 +15,8 @@ use Rattle.kernel_contexts.specs.State.{State}
 use Rattle.kernel_contexts.specs.Call.{TurnEnd, Goes, Yields, Asks, Ends}
 use Rattle.kernel_contexts.specs.Turn.{turn_of}
 use Rattle.kernel_contexts.specs.Several.{GoesApart}
-use Rattle.kernel_contexts.specs.Context.{GoesOn, TurnsOver, TurnsUnless, TurnsOn, AsksFor, made_since, owns, vectors_on}
+use Rattle.kernel_contexts.specs.Stance.{TurnsOn}
+use Rattle.kernel_contexts.specs.Context.{GoesOn, TurnsOver, TurnsUnless, AsksFor, made_since, owns, vectors_on}
 use Rattle.kernel_contexts.specs.Context.{state_on, turn_with, made_by, stop_of, thread_of, config_of}
 use Rattle.kernel_contexts.specs.Needs.{needs_vectors}
 use Rattle.kernel_contexts.specs.declared.context.Context.{Context}

@@ -16,5 +16,5 @@ pub mod Owned
 pub mod Apart
 pub mod FromStart
 pub mod LooseParts
-pub mod LooseTurns
+pub mod Stances
 pub mod Nothing

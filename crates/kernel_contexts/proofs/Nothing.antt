@@ -1,5 +1,5 @@
 -- A turn that makes no event gives a port and a ticket none.
-use Rattle.std.proofs.Common.{◌≡◌, ◌+◌, ◌++◌, ℕ, List, [], length, refl, ap, sym, ◌∙◌, subst, add-zero}
+use Rattle.std.proofs.Common.{◌≡◌, ◌++◌, ℕ, List, [], refl, ap, sym, ◌∙◌, subst}
 use Rattle.std.proofs.lemmas.List.{append-nil}
 use Rattle.sm_types.specs.declared.shared_op.Event.{Event}
 use Rattle.sm_types.specs.declared.shared_words.Entry.{Entry}
@@ -8,14 +8,11 @@ use Rattle.kernel_contexts.specs.Context.{made_since}
 use Rattle.kernel_contexts.proofs.Answered.{made_events}
 
 -- no event was made since
-pub none_since : (journal : List Event) → made_since journal journal ≡ []
+none_since : (journal : List Event) → made_since journal journal ≡ []
 none_since journal = made_events journal journal [] (sym (append-nil journal))
 
 pub grows_by_none : (journal : List Event) → journal ≡ journal ++ made_since journal journal
 grows_by_none journal = sym (ap (λ (l : List Event). journal ++ l) (none_since journal) ∙ append-nil journal)
-
-pub counts_none : (n : ℕ) (journal : List Event) → n ≡ n + length (made_since journal journal)
-counts_none n journal = sym (ap (λ (l : List Event). n + length l) (none_since journal) ∙ add-zero n)
 
 with_none : (t : TicketView) → t ≡ with_events t []
 with_none t = let e = sym (append-nil t.events) in λ i. record { number = t.number; events = e i; name = t.name }

@@ -1,112 +1,101 @@
--- What the calls that advance a context promise: a turn on its save area, a turn on the bank of a core, and
--- several turns on either; and those of a state that no run vouches for.
-use Rattle.std.specs.Prelude.{◌≡◌, ◌+◌, ◌*◌, ◌≤◌, ◌++◌, ℕ, false, true, not, List, length, None}
+-- What the calls that make turns promise, of one turn and of several: those of a guest thread, of a context
+-- on its save area and on the bank of a core, and of a state that no run vouches for.
+use Rattle.std.specs.Prelude.{◌≡◌, ◌+◌, ◌*◌, ◌≤◌, ◌++◌, ◌&&◌, ℕ, Bool, false, true, not, List, length, None}
 use Rattle.sm_types.specs.declared.shared_op.Event.{Event}
 use Rattle.shared_region.specs.Tickets.{Refusals}
 use Rattle.paged_memory.specs.PageTable.{KeepsOwned}
 use Rattle.mem_access.specs.declared.bank.Bank.{Bank}
 use Rattle.machine_step.specs.Machine.{IsSameBank}
-use Rattle.kernel_contexts.specs.Context.{state_of, config_of, thread_of, journal_of, stop_of, is_home, pages_of}
-use Rattle.kernel_contexts.specs.Context.{save_area_of, made_by, turn_at, turn_with, writes_of_turn}
-use Rattle.kernel_contexts.specs.Context.{bank_with, vectors_on, state_on, owns}
-use Rattle.kernel_contexts.specs.Context.{TurnsOrStays, TurnsOn, GoesOrAsks, MayWantMemory, IsPlaceFree}
-use Rattle.kernel_contexts.specs.Context.{IsSameThread, IsOn}
-use Rattle.kernel_contexts.specs.Loose.{loose_state, loose_config, loose_thread, loose_events, loose_stop}
-use Rattle.kernel_contexts.specs.Loose.{loose_pages, loose_made, loose_turn, loose_writes}
-use Rattle.kernel_contexts.specs.Loose.{LooseTurns, LooseWants, IsLoosePlaceFree, IsSameLoose}
-use Rattle.kernel_contexts.specs.Owned.{TurnOwns}
-use Rattle.kernel_contexts.specs.Several.{GoesBy, GoesApart}
+use Rattle.kernel_contexts.specs.Context.{thread_of, journal_of, is_home, held_state, guest_made, made_by}
+use Rattle.kernel_contexts.specs.Context.{owns, needs_bank_on, GoesOrAsks, HasFreePlace}
+use Rattle.kernel_contexts.specs.Context.{IsSameGuest, IsSameThread, IsOn}
+use Rattle.kernel_contexts.specs.Loose.{loose_events, loose_made, stance_in, IsSameLoose}
+use Rattle.kernel_contexts.specs.Needs.{needs_vectors}
+use Rattle.kernel_contexts.specs.Owned.{TurnOwns, turn_writes}
+use Rattle.kernel_contexts.specs.SaveArea.{ComesBack}
+use Rattle.kernel_contexts.specs.Several.{GoesApart}
+use Rattle.kernel_contexts.specs.Stance.{Stance, stance_at, stance_of, stance_on, turn_from, TurnsFrom}
+use Rattle.kernel_contexts.specs.Wanting.{TurnWants}
 use Rattle.kernel_contexts.specs.declared.context.Context.{Context}
 use Rattle.kernel_contexts.specs.declared.context.Turn.{Turn}
 use Rattle.kernel_contexts.specs.declared.context.Turn.TheVariants.{Ran, Yielded, Memory}
+use Rattle.kernel_contexts.specs.declared.guest.GuestThread.{GuestThread}
 use Rattle.kernel_contexts.specs.declared.loose.Loose.{Loose}
 
--- one turn on the save area, over a port that refuses so, which gave the events
-pub record Advances (refusals : Refusals) (given : List Event → Type 0) (old new : Context) (end : Turn)
-    : Type 0 where
-  pub turn : TurnsOrStays (stop_of old) refusals old new end
-  pub memory : end ≡ Memory → MayWantMemory refusals.takes_memory old (save_area_of old)
-  pub goes : end ≡ Memory → IsPlaceFree old → GoesOrAsks refusals.takes_memory (turn_at old)
-  pub owned : TurnOwns (writes_of_turn old (save_area_of old)) (pages_of old) (pages_of new) end
-  pub grows : journal_of new ≡ journal_of old ++ made_by old new
-  pub gives : given (made_by old new)
-  pub same : IsSameThread old new
-  pub made : end ≡ Ran → (state_of new).turns ≡ (state_of old).turns + 1
-  pub yielded : end ≡ Yielded → (state_of new).turns ≡ (state_of old).turns + 1
-  pub budget : (state_of new).count ≤ (config_of new).budget
-  pub few : (state_of new).turns ≤ 64 * (config_of new).budget
-  pub home : is_home new ≡ true
+-- one turn of a thread that may be kept off its vectors, over a port that refuses so, which gave the events:
+-- these come to its journal, this stays the same, its vectors are here then, and it has made so many turns at
+-- most for each instruction of its budget
+pub record MakesTurn (kept : Bool) (refusals : Refusals) (given : List Event → Type 0)
+    (Grows Same Home : Type 0) (most : ℕ) (old new : Stance) (end : Turn) : Type 0 where
+  pub turn : TurnsFrom old.thread.stop kept refusals old new end
+  pub memory : end ≡ Memory → TurnWants (HasFreePlace old.thread) refusals.takes_memory old.thread old.bank
+  pub goes : end ≡ Memory → HasFreePlace old.thread → GoesOrAsks refusals.takes_memory (turn_from old)
+  pub owned : TurnOwns (turn_writes old.thread old.bank) old.thread.machine.pages new.thread.machine.pages end
+  pub grows : Grows
+  pub gives : given (guest_made old.thread new.thread)
+  pub same : Same
+  pub home : Home
+  pub made : end ≡ Ran → new.state.turns ≡ old.state.turns + 1
+  pub yielded : end ≡ Yielded → new.state.turns ≡ old.state.turns + 1
+  pub budget : new.state.count ≤ new.thread.config.budget
+  pub few : new.state.turns ≤ most * new.thread.config.budget
 
--- one turn on a bank, which the thread owns or not: a bank that is not its own stays as it is
-pub record AdvancesOn (refusals : Refusals) (given : List Event → Type 0) (old : Context) (before : Bank)
-    (new : Context) (after : Bank) (end : Turn) : Type 0 where
-  pub turn : TurnsOn (stop_of old) refusals old before new after end
-  pub memory : end ≡ Memory → MayWantMemory refusals.takes_memory old (bank_with old before)
-  pub goes : end ≡ Memory → IsPlaceFree old
-      → GoesOrAsks refusals.takes_memory (turn_with old (vectors_on old before))
-  pub owned : TurnOwns (writes_of_turn old (bank_with old before)) (pages_of old) (pages_of new) end
+-- so many turns, at most so many, each an instruction that is counted and asks nothing; of a thread that is
+-- kept off its vectors none reads or writes them
+pub record MakesSeveral (apart : Bool) (most : ℕ) (Same Home : Type 0) (old new : Stance) (n : ℕ)
+    : Type 0 where
+  pub turns : GoesApart apart old.thread.config old.thread.number old.events n old.state new.state
+  pub few : n ≤ most
+  pub owned : KeepsOwned old.thread.machine.pages new.thread.machine.pages
+  pub count : new.state.count ≡ old.state.count + n
+  pub made : new.state.turns ≡ old.state.turns + n
+  pub stop : new.thread.stop ≡ None
+  pub journal : new.thread.journal.items ≡ old.thread.journal.items
+  pub events : new.events ≡ old.events
+  pub same : Same
+  pub home : Home
+
+-- a context is on this bank then, which is the one of before, and as it was where the thread does not own it
+pub record StaysOn (old : Context) (before : Bank) (new : Context) (after : Bank) : Type 0 where
   pub on : IsOn new after
   pub bank : IsSameBank before after
   pub apart : owns before (thread_of old) ≡ false → after ≡ before
-  pub grows : journal_of new ≡ journal_of old ++ made_by old new
-  pub gives : given (made_by old new)
-  pub same : IsSameThread old new
-  pub made : end ≡ Ran → (state_on new after).turns ≡ (state_on old before).turns + 1
-  pub yielded : end ≡ Yielded → (state_on new after).turns ≡ (state_on old before).turns + 1
-  pub budget : (state_on new after).count ≤ (config_of new).budget
-  pub few : (state_on new after).turns ≤ 64 * (config_of new).budget
 
--- so many turns on the save area, at most so many, each an instruction that is counted and asks nothing
-pub record AdvancesSeveral (most : ℕ) (old new : Context) (n : ℕ) : Type 0 where
-  pub turns : GoesBy (config_of old) (thread_of old) (length (journal_of old)) n (state_of old) (state_of new)
-  pub few : n ≤ most
-  pub owned : KeepsOwned (pages_of old) (pages_of new)
-  pub count : (state_of new).count ≡ (state_of old).count + n
-  pub made : (state_of new).turns ≡ (state_of old).turns + n
-  pub stop : stop_of new ≡ None
-  pub journal : journal_of new ≡ journal_of old
-  pub same : IsSameThread old new
-  pub home : is_home new ≡ true
+-- a turn of a guest thread on a bank that has its vectors
+abbrev pub AdvancesGuest :
+    Bool → Refusals → (List Event → Type 0) → GuestThread → Bank → GuestThread → Bank → Turn → Type 0
+AdvancesGuest apart refusals given old before new after end =
+    MakesTurn (apart && needs_vectors old.config (held_state old before)) refusals given
+    (new.journal.items ≡ old.journal.items ++ guest_made old new) (IsSameGuest old new)
+    (ComesBack new.config new.machine before after) 128 (stance_at old before) (stance_at new after) end
 
--- the same on a bank; where the thread does not own it, none reads or writes vectors
-pub record AdvancesSeveralOn (most : ℕ) (old : Context) (before : Bank) (new : Context) (after : Bank) (n : ℕ)
-    : Type 0 where
-  pub turns : GoesApart (not (owns before (thread_of old))) (config_of old) (thread_of old)
-      (length (journal_of old)) n (state_on old before) (state_on new after)
-  pub few : n ≤ most
-  pub owned : KeepsOwned (pages_of old) (pages_of new)
-  pub count : (state_on new after).count ≡ (state_on old before).count + n
-  pub made : (state_on new after).turns ≡ (state_on old before).turns + n
-  pub stop : stop_of new ≡ None
-  pub on : IsOn new after
-  pub bank : IsSameBank before after
-  pub apart : owns before (thread_of old) ≡ false → after ≡ before
-  pub journal : journal_of new ≡ journal_of old
-  pub same : IsSameThread old new
+-- of a context on its save area
+abbrev pub Advances : Refusals → (List Event → Type 0) → Context → Context → Turn → Type 0
+Advances refusals given old new end =
+    MakesTurn false refusals given (journal_of new ≡ journal_of old ++ made_by old new) (IsSameThread old new)
+    (is_home new ≡ true) 64 (stance_of old) (stance_of new) end
 
--- one turn of a state that no run vouches for
-pub record AdvancesLoose (refusals : Refusals) (given : List Event → Type 0) (old new : Loose) (end : Turn)
-    : Type 0 where
-  pub turn : LooseTurns (loose_stop old) refusals old new end
-  pub memory : end ≡ Memory → LooseWants refusals.takes_memory old
-  pub goes : end ≡ Memory → IsLoosePlaceFree old → GoesOrAsks refusals.takes_memory (loose_turn old)
-  pub owned : TurnOwns (loose_writes old) (loose_pages old) (loose_pages new) end
-  pub grows : loose_events new ≡ loose_events old + length (loose_made old new)
-  pub gives : given (loose_made old new)
-  pub same : IsSameLoose old new
-  pub made : end ≡ Ran → (loose_state new).turns ≡ (loose_state old).turns + 1
-  pub yielded : end ≡ Yielded → (loose_state new).turns ≡ (loose_state old).turns + 1
-  pub budget : (loose_state new).count ≤ (loose_config new).budget
-  pub few : (loose_state new).turns ≤ 128 * (loose_config new).budget
+abbrev pub AdvancesSeveral : ℕ → Context → Context → ℕ → Type 0
+AdvancesSeveral most old new n =
+    MakesSeveral false most (IsSameThread old new) (is_home new ≡ true) (stance_of old) (stance_of new) n
 
--- so many of its turns, at most so many
-pub record AdvancesSeveralLoose (most : ℕ) (old new : Loose) (n : ℕ) : Type 0 where
-  pub turns : GoesBy (loose_config old) (loose_thread old) (loose_events old) n (loose_state old)
-      (loose_state new)
-  pub few : n ≤ most
-  pub owned : KeepsOwned (loose_pages old) (loose_pages new)
-  pub count : (loose_state new).count ≡ (loose_state old).count + n
-  pub made : (loose_state new).turns ≡ (loose_state old).turns + n
-  pub stop : loose_stop new ≡ None
-  pub events : loose_events new ≡ loose_events old
-  pub same : IsSameLoose old new
+-- on a bank, which the thread owns or not
+abbrev pub AdvancesOn : Refusals → (List Event → Type 0) → Context → Bank → Context → Bank → Turn → Type 0
+AdvancesOn refusals given old before new after end =
+    MakesTurn (needs_bank_on old before) refusals given (journal_of new ≡ journal_of old ++ made_by old new)
+    (IsSameThread old new) (StaysOn old before new after) 64 (stance_on before old) (stance_on after new) end
+
+abbrev pub AdvancesSeveralOn : ℕ → Context → Bank → Context → Bank → ℕ → Type 0
+AdvancesSeveralOn most old before new after n =
+    MakesSeveral (not (owns before (thread_of old))) most (IsSameThread old new)
+    (StaysOn old before new after) (stance_on before old) (stance_on after new) n
+
+-- and of a state that no run vouches for
+abbrev pub AdvancesLoose : Refusals → (List Event → Type 0) → Loose → Loose → Turn → Type 0
+AdvancesLoose refusals given old new end =
+    MakesTurn false refusals given (loose_events new ≡ loose_events old + length (loose_made old new))
+    (IsSameLoose old new) (Unit {0}) 128 (stance_in old) (stance_in new) end
+
+abbrev pub AdvancesSeveralLoose : ℕ → Loose → Loose → ℕ → Type 0
+AdvancesSeveralLoose most old new n =
+    MakesSeveral false most (IsSameLoose old new) (Unit {0}) (stance_in old) (stance_in new) n

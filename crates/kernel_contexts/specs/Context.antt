@@ -20,7 +20,6 @@ pub use Rattle.kernel_contexts.specs.GuestThread.{guest_state, held_state, bare_
 use Rattle.kernel_contexts.specs.SaveArea.{HasLengths, IsFit}
 use Rattle.kernel_contexts.specs.Needs.{needs_vectors}
 use Rattle.kernel_contexts.specs.Wanting.{TurnWants}
-use Rattle.kernel_contexts.specs.Owned.{turn_writes}
 pub use Rattle.kernel_contexts.specs.Owner.{owns}
 use Rattle.kernel_contexts.specs.Standing.{IsRunOf}
 use Rattle.kernel_contexts.specs.Call.{TurnEnd, Goes, Yields, Asks, Ends, call_of}
@@ -227,12 +226,6 @@ abbrev pub Takes : Type 0 → TurnEnd → GuestThread → Bank → GuestThread �
 Takes wants end old before new after turn =
     Turns wants end (held_state old before) (held_state new after) new.stop turn
 
--- a context that is stopped answers its stop and stays as it is
-abbrev pub Stays : Stop → Context → Context → Turn → Type 0
-Stays stop old new turn =
-    (turn ≡ Stopped stop) × (state_of new ≡ state_of old) × (journal_of new ≡ journal_of old)
-    × (stop_of new ≡ Some stop)
-
 -- the turn of a context with these vectors
 abbrev pub turn_with : Context → VectorState → TurnEnd
 turn_with c vectors = turn_of (config_of c) (thread_of c) (length (journal_of c)) (state_with c vectors)
@@ -240,11 +233,6 @@ turn_with c vectors = turn_of (config_of c) (thread_of c) (length (journal_of c)
 -- and with those of its save area
 abbrev pub turn_at : Context → TurnEnd
 turn_at c = turn_with c (bank_of c)
-
--- the addresses of the bytes that the turn of a context, with its vectors in this bank, writes where its
--- thread goes on
-abbrev pub writes_of_turn : Context → Bank → List ℕ
-writes_of_turn c bank = turn_writes c.guest bank
 
 -- the pages of its thread
 abbrev pub pages_of : Context → PageTable
@@ -263,26 +251,11 @@ MayWantMemory takes_memory c bank = TurnWants (IsPlaceFree c) takes_memory c.gue
 abbrev pub made_by : Context → Context → List Event
 made_by old new = made_since (journal_of old) (journal_of new)
 
--- a context that is not stopped makes a turn
-abbrev pub TurnsOrStays : Option Stop → Refusals → Context → Context → Turn → Type 0
-TurnsOrStays None refusals old new turn =
-    TurnsOver refusals (turn_at old) (state_of old) (state_of new) (made_by old new) (stop_of new) turn
-TurnsOrStays (Some stop) refusals old new turn = Stays stop old new turn
-
 -- the turn of a context on the bank of a core needs that bank: its thread does not own it, and the turn reads
 -- or writes vectors
 abbrev pub needs_bank_on : Context → Bank → Bool
 needs_bank_on c bank =
     cond (owns bank (thread_of c)) false (needs_vectors (config_of c) (state_on c bank))
-
--- a context that is not stopped makes a turn on the bank of a core
-abbrev pub TurnsOn : Option Stop → Refusals → Context → Bank → Context → Bank → Turn → Type 0
-TurnsOn None refusals old before new after turn =
-    TurnsUnless (needs_bank_on old before) refusals (turn_with old (vectors_on old before))
-    (state_on old before) (state_on new after) (made_by old new) (stop_of new) turn
-TurnsOn (Some stop) refusals old before new after turn =
-    (turn ≡ Stopped stop) × (state_on new after ≡ state_on old before) × (journal_of new ≡ journal_of old)
-    × (stop_of new ≡ Some stop)
 
 -- the options and the number of a guest thread are those of its start, and where it began stays
 pub record IsSameGuest (old new : GuestThread) : Type 0 where

@@ -17,6 +17,7 @@ pub mod Owner
 pub mod GuestThread
 pub mod Context
 pub mod Guest
+pub mod Stance
 pub mod Output
 pub mod Watch
 pub mod Asked

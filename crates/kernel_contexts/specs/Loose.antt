@@ -1,22 +1,19 @@
 -- What a loose state is, and what its turns are: those of a thread's state that no run vouches for.
-use Rattle.std.specs.Prelude.{◌≡◌, ℕ, List, Option, Some, None}
+use Rattle.std.specs.Prelude.{◌≡◌, false, ℕ, List, Option}
 use Rattle.sm_types.specs.declared.config.Config.{Config}
 use Rattle.sm_types.specs.declared.shared_op.Event.{Event}
 use Rattle.sm_types.specs.declared.stop.Stop.{Stop}
 use Rattle.shared_region.specs.Tickets.{Refusals}
-use Rattle.paged_memory.specs.PageTable.{PageTable}
 use Rattle.mem_access.specs.declared.bank.Bank.{Bank}
 use Rattle.machine_step.specs.declared.machine.Machine.{Machine}
 use Rattle.kernel_contexts.specs.State.{State}
 use Rattle.kernel_contexts.specs.Call.{TurnEnd}
 use Rattle.kernel_contexts.specs.Turn.{turn_of}
 use Rattle.kernel_contexts.specs.GuestThread.{held_state, guest_events}
-use Rattle.kernel_contexts.specs.Owned.{turn_writes}
-use Rattle.kernel_contexts.specs.Wanting.{TurnWants}
-use Rattle.kernel_contexts.specs.Context.{TurnsOver, guest_made, HasFreePlace}
+use Rattle.kernel_contexts.specs.Context.{guest_made}
+use Rattle.kernel_contexts.specs.Stance.{Stance, stance_at, TurnsFrom}
 use Rattle.kernel_contexts.specs.declared.loose.Loose.{Loose}
 use Rattle.kernel_contexts.specs.declared.context.Turn.{Turn}
-use Rattle.kernel_contexts.specs.declared.context.Turn.TheVariants.{Stopped}
 
 -- its vectors and ZA
 abbrev pub loose_bank : Loose → Bank
@@ -25,10 +22,6 @@ loose_bank l = l.bank
 -- its registers and pages
 abbrev pub loose_machine : Loose → Machine
 loose_machine l = l.guest.machine
-
--- the pages of its thread
-abbrev pub loose_pages : Loose → PageTable
-loose_pages l = l.guest.machine.pages
 
 -- the plain state that it stands for
 abbrev pub loose_state : Loose → State
@@ -58,30 +51,13 @@ loose_made old new = guest_made old.guest new.guest
 abbrev pub loose_turn : Loose → TurnEnd
 loose_turn l = turn_of (loose_config l) (loose_thread l) (loose_events l) (loose_state l)
 
--- the addresses of the bytes that its turn writes where its thread goes on
-abbrev pub loose_writes : Loose → List ℕ
-loose_writes l = turn_writes l.guest l.bank
+-- how it stands
+abbrev pub stance_in : Loose → Stance
+stance_in l = stance_at l.guest l.bank
 
--- the list of the events that it makes has a place that is not used
-abbrev pub IsLoosePlaceFree : Loose → Type 0
-IsLoosePlaceFree l = HasFreePlace l.guest
-
--- for its turn memory may be wanting; the port takes memory where this holds
-abbrev pub LooseWants : Type 0 → Loose → Type 0
-LooseWants takes_memory l = TurnWants (IsLoosePlaceFree l) takes_memory l.guest l.bank
-
--- one that is stopped answers its stop and stays as it is
-abbrev pub LooseStays : Stop → Loose → Loose → Turn → Type 0
-LooseStays stop old new turn =
-    (turn ≡ Stopped stop) × (loose_state new ≡ loose_state old) × (loose_events new ≡ loose_events old)
-    × (loose_stop new ≡ Some stop)
-
--- one that is not stopped makes a turn
+-- it makes a turn
 abbrev pub LooseTurns : Option Stop → Refusals → Loose → Loose → Turn → Type 0
-LooseTurns None refusals old new turn =
-    TurnsOver refusals (loose_turn old) (loose_state old) (loose_state new) (loose_made old new)
-    (loose_stop new) turn
-LooseTurns (Some stop) refusals old new turn = LooseStays stop old new turn
+LooseTurns stop refusals old new turn = TurnsFrom stop false refusals (stance_in old) (stance_in new) turn
 
 -- the options and the thread are those of before
 pub record IsSameLoose (old new : Loose) : Type 0 where

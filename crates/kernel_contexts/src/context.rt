@@ -128,12 +128,7 @@ impl Context {
             (λ events. GivesEvents P.gives P.name P.tells (thread_of self.old) events port.old ticket.old
             port.new ticket.new) self.old self.new result }
     {
-        match self.guest.stop {
-            Some(stop) => Turn::Stopped(stop),
-            None => self
-                .guest
-                .make_turn(&mut self.save_area, false, port, ticket),
-        }
+        self.guest.advance(&mut self.save_area, false, port, ticket)
     }
 
     /// Makes turns of a thread that has not stopped, on the context's own save area, `most` at most, and
@@ -166,16 +161,10 @@ impl Context {
             (λ events. GivesEvents P.gives P.name P.tells (thread_of self.old) events port.old ticket.old
             port.new ticket.new) self.old bank.old self.new bank.new result }
     {
-        match self.guest.stop {
-            Some(stop) => Turn::Stopped(stop),
-            None => {
-                if is_owned(bank, self.guest.number) {
-                    self.guest.make_turn(bank, false, port, ticket)
-                } else {
-                    self.guest
-                        .make_turn(&mut self.save_area, true, port, ticket)
-                }
-            }
+        if is_owned(bank, self.guest.number) {
+            self.guest.advance(bank, false, port, ticket)
+        } else {
+            self.guest.advance(&mut self.save_area, true, port, ticket)
         }
     }
 

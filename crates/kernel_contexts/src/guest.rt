@@ -107,6 +107,7 @@ impl GuestThread {
     ghost use Rattle.kernel_contexts.specs.Context.{GuestTurns, GuestTurnsUnless, LacksUnless};
     ghost use Rattle.kernel_contexts.specs.Context.{Grows, HasFreePlace, GoesOrAsks};
     ghost use Rattle.kernel_contexts.specs.Wanting.{TurnWants, InstructionWants};
+    ghost use Rattle.kernel_contexts.specs.Advance.{AdvancesGuest};
     ghost use Rattle.paged_memory.specs.PageTable.{KeepsOwned};
     ghost use Rattle.kernel_contexts.specs.Owned.{TurnOwns, turn_writes, instruction_writes};
     ghost use Rattle.machine_step.specs.Step.{events_of};
@@ -169,12 +170,35 @@ impl GuestThread {
         self.earlier as usize + self.journal.len()
     }
 
+    /// Makes one turn on a bank that has its vectors; a thread that has stopped answers its stop, and nothing
+    /// changes. Where `apart` says that the thread is kept off its vectors, a turn that reads or writes them
+    /// is not made, and the answer is `NeedsBank`.
+    #[inline(always)]
+    pub fn advance<P: Port>(
+        &mut self,
+        bank: &mut Bank,
+        apart: bool,
+        port: &mut P,
+        ticket: &mut P::Ticket,
+    ) -> Turn
+        requires fit { IsFit self.old.config self.old.machine bank.old }
+        requires ticket { IsTicketOf self.old.number (P.name port.old) (P.tells ticket.old) }
+        ensures { AdvancesGuest apart (P.refuses port.old ticket.old)
+            (λ events. GivesEvents P.gives P.name P.tells self.old.number events port.old ticket.old port.new
+            ticket.new) self.old bank.old self.new bank.new result }
+    {
+        match self.stop {
+            Some(stop) => Turn::Stopped(stop),
+            None => self.make_turn(bank, apart, port, ticket),
+        }
+    }
+
     /// Makes one turn of a thread that has not stopped. Up to the watched count it is an instruction. Where
     /// `apart` says that the thread is kept off its vectors, a turn that reads or writes them is not made,
     /// and the answer is `NeedsBank`. It is laid into the loop that makes turns, where its answer needs no
     /// place in memory.
     #[inline(always)]
-    pub fn make_turn<P: Port>(
+    fn make_turn<P: Port>(
         &mut self,
         bank: &mut Bank,
         apart: bool,

@@ -55,10 +55,7 @@ impl Loose {
             (λ events. GivesEvents P.gives P.name P.tells (loose_thread self.old) events port.old ticket.old
             port.new ticket.new) self.old self.new result }
     {
-        match self.guest.stop {
-            Some(stop) => Turn::Stopped(stop),
-            None => self.guest.make_turn(&mut self.bank, false, port, ticket),
-        }
+        self.guest.advance(&mut self.bank, false, port, ticket)
     }
 
     /// Makes turns of a thread that has not stopped, `most` at most, and tells how many, as

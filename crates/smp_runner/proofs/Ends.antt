@@ -5,7 +5,8 @@ use Rattle.sm_types.specs.declared.shared_op.SharedOp.{SharedOp}
 use Rattle.sm_types.specs.declared.stop.Stop.{Stop}
 use Rattle.shared_region.specs.Tickets.{Refusals, IsAllowed}
 use Rattle.kernel_contexts.specs.Call.{TurnEnd, Goes, Yields, Asks, Ends}
-use Rattle.kernel_contexts.specs.Context.{TurnsOrStays, AsksFor, stop_of}
+use Rattle.kernel_contexts.specs.Context.{AsksFor, stop_of}
+use Rattle.kernel_contexts.specs.Stance.{TurnsOrStays}
 use Rattle.kernel_contexts.specs.declared.context.Context.{Context}
 use Rattle.kernel_contexts.specs.declared.context.Turn.{Turn}
 use Rattle.kernel_contexts.specs.declared.context.Turn.TheVariants.{Ran, Yielded, NeedsBank, Stopped, TraceEnds, TraceDiffers, Memory}

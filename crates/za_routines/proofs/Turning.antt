@@ -18,7 +18,8 @@ use Rattle.machine_step.specs.Effect.{Effect, Raises, Calls, Becomes, effect_of}
 use Rattle.kernel_contexts.specs.State.{State}
 use Rattle.kernel_contexts.specs.Call.{TurnEnd, Goes, Yields, Asks, Ends, counted}
 use Rattle.kernel_contexts.specs.Turn.{turn_of}
-use Rattle.kernel_contexts.specs.Context.{TurnsOver, TurnsOrStays, AsksFor, GoesOn, turn_at, state_of, stop_of, made_by, config_of, thread_of, journal_of}
+use Rattle.kernel_contexts.specs.Stance.{TurnsOrStays}
+use Rattle.kernel_contexts.specs.Context.{TurnsOver, AsksFor, GoesOn, turn_at, state_of, stop_of, made_by, config_of, thread_of, journal_of}
 use Rattle.kernel_contexts.specs.declared.context.Context.{Context}
 use Rattle.kernel_contexts.specs.declared.context.Turn.{Turn}
 use Rattle.kernel_contexts.specs.declared.context.Turn.TheVariants as turns

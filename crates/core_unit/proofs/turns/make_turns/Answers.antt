@@ -99,15 +99,15 @@ turns-preserved g c =
       goes = f.turns;
     } in
     record {
-      on = f.on;
+      on = f.home.on;
       apart = λ apart.
           let here = owned_still c.args.bank.now bank (thread_of first) (thread_of old) h.bank.owner h.same.thread apart in
-          f.apart (owned_still bank after (thread_of old) (thread_of new) e.bank.owner e.same.thread here)
-          ∙ e.apart here ∙ h.apart apart;
+          f.home.apart (owned_still bank after (thread_of old) (thread_of new) e.home.bank.owner e.same.thread here)
+          ∙ e.home.apart here ∙ h.apart apart;
       bank = record {
-        vl = f.bank.vl ∙ e.bank.vl ∙ h.bank.vl;
-        svl = f.bank.svl ∙ e.bank.svl ∙ h.bank.svl;
-        owner = f.bank.owner ∙ e.bank.owner ∙ h.bank.owner;
+        vl = f.home.bank.vl ∙ e.home.bank.vl ∙ h.bank.vl;
+        svl = f.home.bank.svl ∙ e.home.bank.svl ∙ h.bank.svl;
+        owner = f.home.bank.owner ∙ e.home.bank.owner ∙ h.bank.owner;
       };
       same = record {
         config = f.same.config ∙ e.same.config ∙ h.same.config;
@@ -120,7 +120,7 @@ turns-preserved g c =
           c.advance_several_on-turns.result on.0 gone;
       quiet = λ apart.
           let here = owned_still c.args.bank.now bank (thread_of first) (thread_of old) h.bank.owner h.same.thread apart in
-          let there = owned_still bank after (thread_of old) (thread_of new) e.bank.owner e.same.thread here in
+          let there = owned_still bank after (thread_of old) (thread_of new) e.home.bank.owner e.same.thread here in
           quiet_by (not (owns after (thread_of new))) was (guest_on after new) (guest_on end last) (c.turns.turns + 1)
           c.advance_several_on-turns.result (ap not there) on.0 gone
           (rw add-one (quiet_on was (guest_on bank old) (guest_on after new) c.turns.turns (made_by old new) h.run h.runs later
@@ -175,9 +175,9 @@ returns-in-Some g c =
       gives = gives_more g.P.Port.gives g.P.Port.name g.P.Port.tells _ _ _ _ _ _ (thread_of first) (thread_of old) _ (made_by old new) _
           (is_answers was (guest_on bank old) (guest_on after new) c.turns.turns (made_by old new) h.run h.runs later)
           h.same.thread h.gives e.gives;
-      on = e.on;
-      bank = record { vl = e.bank.vl ∙ h.bank.vl; svl = e.bank.svl ∙ h.bank.svl; owner = e.bank.owner ∙ h.bank.owner };
-      apart = λ apart. e.apart (owned_still c.args.bank.now c.turns.bank (thread_of c.args.resident.now.context)
+      on = e.home.on;
+      bank = record { vl = e.home.bank.vl ∙ h.bank.vl; svl = e.home.bank.svl ∙ h.bank.svl; owner = e.home.bank.owner ∙ h.bank.owner };
+      apart = λ apart. e.home.apart (owned_still c.args.bank.now c.turns.bank (thread_of c.args.resident.now.context)
           (thread_of c.turns.resident.context) h.bank.owner h.same.thread apart) ∙ h.apart apart;
       same = record {
         config = e.same.config ∙ h.same.config;
@@ -263,9 +263,9 @@ returns-then-waits g c =
       gives = gives_more g.P.Port.gives g.P.Port.name g.P.Port.tells _ _ _ _ _ _ (thread_of first) (thread_of old) _ (made_by old new) _
           (is_answers was (guest_on bank old) (guest_on after new) c.turns.turns (made_by old new) h.run h.runs later)
           h.same.thread h.gives e.gives;
-      on = e.on;
-      bank = record { vl = e.bank.vl ∙ h.bank.vl; svl = e.bank.svl ∙ h.bank.svl; owner = e.bank.owner ∙ h.bank.owner };
-      apart = λ apart. e.apart (owned_still c.args.bank.now c.turns.bank (thread_of c.args.resident.now.context)
+      on = e.home.on;
+      bank = record { vl = e.home.bank.vl ∙ h.bank.vl; svl = e.home.bank.svl ∙ h.bank.svl; owner = e.home.bank.owner ∙ h.bank.owner };
+      apart = λ apart. e.home.apart (owned_still c.args.bank.now c.turns.bank (thread_of c.args.resident.now.context)
           (thread_of c.turns.resident.context) h.bank.owner h.same.thread apart) ∙ h.apart apart;
       same = record {
         config = e.same.config ∙ h.same.config;

@@ -1,4 +1,4 @@
-use Rattle.std.proofs.Common.{◌∙◌, refl, false}
+use Rattle.std.proofs.Common.{◌∙◌, refl, false, ap, length}
 use Rattle.kernel_contexts.specs.Context.{held_state}
 use Rattle.kernel_contexts.proofs.FromStart.{several_from_start, still_from_start}
 use Rattle.kernel_contexts.proofs.Kept.{run_same}
@@ -18,6 +18,7 @@ returns c =
       made = e.made;
       stop = e.stop ∙ c.requires.runs;
       journal = e.same.journal;
+      events = ap length e.same.journal;
       same = record { config = e.same.config; thread = e.same.number; image = refl };
       home = c.requires.home;
     }

@@ -1,4 +1,4 @@
-use Rattle.std.proofs.Common.{◌≡◌, ℕ, true, false, refl, ap, sym, ◌∙◌, rules}
+use Rattle.std.proofs.Common.{◌≡◌, ℕ, true, false, length, refl, ap, sym, ◌∙◌, rules}
 use Rattle.std.specs.Prelude.{Option, not}
 use Rattle.kernel_contexts.specs.Owner.{owns, is_owner}
 use Rattle.kernel_contexts.specs.Context.{held_state}
@@ -26,21 +26,24 @@ returns-then-is_owned c =
       count = e.count;
       made = e.made;
       stop = e.stop ∙ c.requires.runs;
-      on = record {
-        lengths = e.back.fit.lengths;
-        place = c.requires.on.place
-            ∙ ap (λ (o : Option ℕ). not (is_owner o old.number)) (sym e.back.same.owner)
-            ∙ ap (λ (n : ℕ). not (owns after n)) (sym e.same.number);
-        fit = λ _. e.back.fit;
-        run = λ _. run_same before.image old.config new.config old.number new.number old.journal.items new.journal.items
-            (held_state new after) (held_state new after) old.stop new.stop e.same.config e.same.number e.same.journal refl e.stop
-            (run_goes_by false before.image old.config old.number (held_state old bank) (held_state new after) old.journal.items old.stop
-            c.make_several_turns.result c.requires.runs (c.requires.on.run here) so);
-      };
-      bank = e.back.same;
-      apart = λ not_owned. let clash = sym here ∙ not_owned in cc;
       journal = e.same.journal;
+      events = ap length e.same.journal;
       same = record { config = e.same.config; thread = e.same.number; image = refl };
+      home = record {
+        on = record {
+          lengths = e.back.fit.lengths;
+          place = c.requires.on.place
+              ∙ ap (λ (o : Option ℕ). not (is_owner o old.number)) (sym e.back.same.owner)
+              ∙ ap (λ (n : ℕ). not (owns after n)) (sym e.same.number);
+          fit = λ _. e.back.fit;
+          run = λ _. run_same before.image old.config new.config old.number new.number old.journal.items new.journal.items
+              (held_state new after) (held_state new after) old.stop new.stop e.same.config e.same.number e.same.journal refl e.stop
+              (run_goes_by false before.image old.config old.number (held_state old bank) (held_state new after) old.journal.items old.stop
+              c.make_several_turns.result c.requires.runs (c.requires.on.run here) so);
+        };
+        bank = e.back.same;
+        apart = λ not_owned. let clash = sym here ∙ not_owned in cc;
+      };
     }
 
 pub returns-else-is_owned : goal.returns-else-is_owned
@@ -61,16 +64,19 @@ returns-else-is_owned c =
       count = e.count;
       made = e.made;
       stop = e.stop ∙ c.requires.runs;
-      on = record {
-        lengths = search rules;
-        place = search rules;
-        fit = λ owned. let clash = sym there ∙ owned in cc;
-        run = λ owned. let clash = sym there ∙ owned in cc;
-      };
-      bank = record { vl = refl; svl = refl; owner = refl };
-      apart = λ _. refl;
       journal = e.same.journal;
+      events = ap length e.same.journal;
       same = record { config = e.same.config; thread = e.same.number; image = refl };
+      home = record {
+        on = record {
+          lengths = search rules;
+          place = search rules;
+          fit = λ owned. let clash = sym there ∙ owned in cc;
+          run = λ owned. let clash = sym there ∙ owned in cc;
+        };
+        bank = record { vl = refl; svl = refl; owner = refl };
+        apart = λ _. refl;
+      };
     }
 
 pub invariant_of-self-else-is_owned : goal.invariant_of-self-else-is_owned

@@ -11,8 +11,10 @@ returns c =
       count = e.count;
       made = e.made;
       stop = e.stop ∙ c.requires;
+      journal = e.same.journal;
       events = λ i. e.same.earlier i + length (e.same.journal i);
       same = record { config = e.same.config; thread = e.same.number };
+      home = tt;
     }
 
 pub invariant_of-self : goal.invariant_of-self
