@@ -23,16 +23,6 @@ use Rattle.sme_debugger.proofs.Joined.{standing, parts_as, ends_as, kept_on_run}
 
 -- ---- at the start
 
--- under the names of the run
-pub kept_as : (given config : Config) (number thread events : ℕ) (s t : State) (k : KeptState) → IsKept given number events s k
-    → given ≡ config → number ≡ thread → events ≡ 0 → s ≡ t → IsKept config thread 0 t k
-kept_as given config number thread events s t k h same is none state = record {
-  config_is = h.config_is ∙ same;
-  thread_is = h.thread_is ∙ is;
-  events_are = h.events_are ∙ none;
-  keeps = subst (Keeps k) state h.keeps;
-}
-
 start_place : (r : Recording) → IsPlace r 0 (start_state r.program r.config r.thread) 0
 unfolding start_state
 start_place r = record {

@@ -34,14 +34,3 @@ none_more r above count address s before here other = λ n t over under shows. e
       λ there. other (ap (λ (u : State). u.core.scalars.pc) (one_state r count s t here shown) ∙ there)
   | inr (inr more) ↦ absurd (omega (arith, more, under))
 ]
-
--- a context at the end of its run over a journal says where that ends
-pub ends_at : (program : Program) (config : Config) (thread : ℕ) (journal : List Event) (count : ℕ) (context : Context)
-    → HasRunAlone program config thread context → journal_of context ≡ journal → (state_of context).count ≡ count
-    → EndsAt program config thread journal count
-ends_at program config thread journal count context h same counts = record {
-  state = state_of context;
-  stop = h.stop;
-  run = subst (λ (j : List Event). IsLoneRun program config thread j (state_of context) h.stop) same h.run;
-  counts = counts;
-}

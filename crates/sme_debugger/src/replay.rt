@@ -186,7 +186,7 @@ impl Replay {
         let mut later = Vec::new(alloc);
         keep_on_the_way(alloc, &start, &mut later, &mut loose, &mut ticket, count)?;
         let stop = resume_to_end(&mut loose, &mut ticket, count)?;
-        Ok(Replay {
+        let mut replay = Replay {
             alloc,
             image,
             config,
@@ -199,7 +199,9 @@ impl Replay {
             ticket,
             shown: None,
             until: 0,
-        })
+        };
+        replay.begin_before(0)?;
+        Ok(replay)
     }
 
     /// Brings the thread to where the run shows a count that it has. After `Memory` it may stand anywhere on

@@ -1,4 +1,4 @@
-use Rattle.std.proofs.Common.{◌≡◌, ◌≢◌, ◌<◌, ◌^◌, List, Some, length, ap, sym, ◌∙◌, subst, arith}
+use Rattle.std.proofs.Common.{◌≡◌, ◌≢◌, ◌<◌, ◌^◌, List, Some, length, refl, ap, sym, ◌∙◌, subst, arith}
 use Rattle.sm_types.specs.declared.shared_op.Event.{Event}
 use Rattle.shared_region.specs.Ports.{ReplayEvents}
 use Rattle.paged_memory.specs.Image.{IsImage}
@@ -79,8 +79,14 @@ returns-in_err-stop-clause-parts c =
     (c.in_ok-keep_on_the_way.ensures.keeps r begun) c.args.count c.in_err-stop.field-0.0 c.in_ok-keep_on_the_way.ensures.goes.most
     (c.in_err-stop.ensures.parts told))
 
-pub invariant_of-result : goal.invariant_of-result
-invariant_of-result c =
+pub returns-in_err-begin_before-clause-parts : goal.returns-in_err-begin_before-clause-parts
+returns-in_err-begin_before-clause-parts c =
+    passed_on c.from_residual-in_err-begin_before.result Memory
+    (λ (f : AloneFault). f ≢ Memory → IsParting c.args.image c.args.config c.args.thread c.args.journal.items c.args.count f)
+    c.from_residual-in_err-begin_before.ensures.1 (λ told. absurd (told refl))
+
+pub invariant_of-replay : goal.invariant_of-replay
+invariant_of-replay c =
     let r : Recording = record {
       program = c.args.image;
       config = c.args.config;
@@ -141,13 +147,13 @@ returns-clause-recording c =
     (loose.events ∙ kept.events_are) (loose.config ∙ kept.config_is) (loose.thread ∙ kept.thread_is) c.new-ticket.ensures
     c.new-later.ensures.items in
     let whole = c.in_ok-stop.ensures.whole ∙ (c.in_ok-keep_on_the_way.ensures.keeps r begun).whole in
-    λ i. record {
+    c.in_ok-begin_before.ensures.same ∙ (λ i. record {
       program = c.args.image;
       config = c.args.config;
       thread = c.args.thread;
       journal = whole i;
       last = c.args.count;
-    }
+    })
 
 pub returns-clause-ends : goal.returns-clause-ends
 returns-clause-ends c =
