@@ -61,8 +61,8 @@ impl KeptState {
         }))
     }
 
-    /// The state of a context. `None` comes exactly where it may not be kept: where the thread does not go on
-    /// from it, or a page stands in the shared region. `Memory` is want of memory.
+    /// The state of a context. `None` comes only where it may not be kept: where the thread does not go on from
+    /// it, or a page stands in the shared region. `Memory` is want of memory.
     pub fn of_context(alloc: Global, context: &Context) -> Result<Option<KeptState>, Memory>
         requires { is_home context.now ≡ true }
         ensures kept { IfOk result (λ found. IfSome found (IsKept (config_of context.now)

@@ -59,7 +59,7 @@ fn share_page(
 }
 
 /// The pages of a thread, which share the bytes with those kept before where they have not changed. `None`
-/// comes exactly where one of them stands in the shared region.
+/// comes only where one of them stands in the shared region.
 pub fn share_pages(
     alloc: Global,
     pages: &Pages,

@@ -1,7 +1,6 @@
 -- States of a run that are kept while it is made from its start.
 use Rattle.std.proofs.Common.{◌≡◌, ℕ, zero, suc, ◌≤◌, List, [], ◌∷◌, ◌++◌, Option, None, drop, All, refl, ap, sym, ◌∙◌}
 use Rattle.std.proofs.Common.{subst, arith, Bool, true, false, if◌then◌else◌}
-use Rattle.sm_types.specs.declared.config.Config.{Config}
 use Rattle.sm_types.specs.declared.shared_op.Event.{Event}
 use Rattle.sm_types.specs.declared.stop.Stop.{Stop}
 use Rattle.shared_region.specs.Ports.{ReplayEvents}

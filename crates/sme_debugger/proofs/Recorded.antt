@@ -1,13 +1,7 @@
 -- What a recorded run shows at a count is one state, and the next count with a PC is sought among these.
-use Rattle.std.proofs.Common.{◌≡◌, ◌≢◌, ℕ, ◌+◌, List, inl, inr, ap, sym, ◌∙◌, arith, subst}
+use Rattle.std.proofs.Common.{◌≡◌, ◌≢◌, ℕ, ◌+◌, inl, inr, ap, sym, ◌∙◌, arith, subst}
 use Rattle.kernel_contexts.specs.State.{State}
-use Rattle.kernel_contexts.specs.Context.{state_of, journal_of}
-use Rattle.kernel_contexts.specs.declared.context.Context.{Context}
-use Rattle.sm_types.specs.declared.config.Config.{Config}
-use Rattle.sm_types.specs.declared.shared_op.Event.{Event}
-use Rattle.paged_memory.specs.Image.{Program}
-use Rattle.lone_runner.specs.LoneRun.{IsLoneRun, HasRunAlone}
-use Rattle.lone_runner.specs.Parting.{EndsAt, state_at}
+use Rattle.lone_runner.specs.Parting.{state_at}
 use Rattle.lone_runner.proofs.Partings.{compared}
 use Rattle.sme_debugger.specs.Recording.{Recording, Shows, reached_by, counts_by}
 use Rattle.sme_debugger.specs.Answers.{NoneBetween}
