@@ -10,7 +10,9 @@
 //! journal, and the journals are one history; the report and the history of the world to which a plan's
 //! events lead; a listing; the file of the program that a source is assembled to; the block of a thread whose
 //! lone run comes to it; what the commands of a script print, each of the state that the lone run of a thread
-//! shows where the commands before it led; of each vector of a file what its instruction does in its state;
+//! shows where the commands before it led; the checkpoint of the state that it shows at a count; the block to
+//! which the rest of a run comes from a checkpoint; how many marked calls of a lone run returned, of which none
+//! is at fault; of each vector of a file what its instruction does in its state;
 //! a workload's source, or the line of its run; or the text of help or of the version. Every other status but
 //! `OutOfMemory` comes for its cause alone, with its line, or with `WriteFault` a part of a text; what is due
 //! is answered, where the outside does not fail and there is memory; and each file that is reached was
