@@ -10,13 +10,13 @@ returns-clause-same g c =
     record { thread = same.thread; origin = λ i. origin_from (same.image i) (same.config i) (name i) }
 
 pub returns-clause-stopped : goal.returns-clause-stopped
-returns-clause-stopped g c s is = stops_at _ _ _ _ _ s c.advance.ensures.turn is
+returns-clause-stopped g c s is = stops_at _ _ c.args.whole.now.context c.advance.new.self _ s c.advance.ensures.turn is
 
 pub returns-clause-ends : goal.returns-clause-ends
-returns-clause-ends g c is = goes _ (λ op. c.requires.goes _ _ op) _ _ _ _ c.advance.ensures.turn is
+returns-clause-ends g c is = goes _ (λ op. c.requires.goes _ _ op) c.args.whole.now.context c.advance.new.self _ _ c.advance.ensures.turn is
 
 pub returns-clause-bank : goal.returns-clause-bank
-returns-clause-bank g c is = at_home _ (λ op. c.requires.goes _ _ op) _ _ _ _ c.advance.ensures.turn is
+returns-clause-bank g c is = at_home _ (λ op. c.requires.goes _ _ op) c.args.whole.now.context c.advance.new.self _ _ c.advance.ensures.turn is
 
 pub returns-clause-strays : goal.returns-clause-strays
-returns-clause-strays g c is = agrees _ (λ op. c.requires.goes _ _ op) _ _ _ _ c.advance.ensures.turn is
+returns-clause-strays g c is = agrees _ (λ op. c.requires.goes _ _ op) c.args.whole.now.context c.advance.new.self _ _ c.advance.ensures.turn is
