@@ -5,8 +5,8 @@ from elf import Segment, build, elf, text_of
 from expected import report
 from expected_debug import debug, listed
 from instructions import EXIT, SVC, add, address, call, laid_out, movz, subs, to
-from nested import EACH_SIGNAL, deep
-from world_programs import NESTS
+from nested import ADDS, EACH_SIGNAL, RETURNS, deep, masks, posts, sets, signals, spins
+from world_programs import (AT_TEXT, DUP_REGISTER, LDADD, NESTS, PTRUE_P0_B, SETFFR, SMOPA_ZA0_Z0_Z1, at, index, number, shared_words)
 from world_rows import of_report, rewritten
 
 NE = 1
@@ -26,12 +26,26 @@ TILES = build([
 # posts a signal to itself, whose handler has an undefined word, and waits
 HANDLER = elf(laid_out(movz(0, 5), address(1, "handler"), movz(8, 134), SVC, *call(131, (0, 0), (5, 0)), "wait", to("wait"),
                        "handler", UDF_9))
+MSR_TPIDR, MSR_TPIDR2 = 0xD51BD040, 0xD51BD0A0
+# comes past counts at which states are kept: at 65536 it is in streaming mode with ZA on, at 131072 in a handler, where another signal is
+# held and masked, and at 196608 in neither. In each of twelve rounds it adds to a shared word, stores, writes, and posts itself a signal
+KEEPS = build([
+    Segment(TEXT, text_of(laid_out(
+        *sets(s5="five", s6="six"), movz(19, DATA >> 16, 1), shared_words(21), movz(22, 1), movz(23, 12),
+        "round", number(LDADD, 24, 21, 22), at(STR, 23, 19, 8), MSR_TPIDR | 24, MSR_TPIDR2 | 23, *call(64, (1, 0), AT_TEXT, (1, 0)), *posts(5),
+        SMSTART, PTRUE_P0_B, index(0, 1, 3), number(DUP_REGISTER, 1, 23), SMOPA_ZA0_Z0_Z1, *spins(5000, "spin"),
+        add(19, 19, 1024), subs(23, 23, 1), to("round", NE),
+        SMSTOP, PTRUE_P0_B, SETFFR, index(2, 5, 7), *spins(48000, "rest"), *EXIT,
+        "five", *masks(ADDS, signals(6)), *posts(6), *spins(2100, "handled"), *RETURNS,
+        "six", add(9, 9, 1), *RETURNS))),
+    Segment(DATA, bytes(5 * k % 253 for k in range(64)), flags=6, memory=12 * 1024 + 64)])[0]
 
 # of each report of version 1 its program and the options of its run
-RUNS = {"debug-tiles": (TILES, {}), "debug-handler": (HANDLER, {"slice": 12}), "debug-nothing": (elf([UDF_9]), {})}
+RUNS = {"debug-tiles": (TILES, {}), "debug-handler": (HANDLER, {"slice": 12}), "debug-nothing": (elf([UDF_9]), {}),
+        "debug-keeps-unmasked": (KEEPS, {"svl": 128})}
 # and of each of version 2
 NEW_RUNS = {"debug-nested": (NESTS, {"slice": 12, "svl": 128}), "debug-64-deep": (deep(5, []), {"slice": 16}),
-            "debug-62-signals": (EACH_SIGNAL, {"slice": 700, "budget": 900})}
+            "debug-62-signals": (EACH_SIGNAL, {"slice": 700, "budget": 900}), "debug-keeps": (KEEPS, {})}
 # of each report of version 1 the row that writes it in version 2
 WRITTEN = {
     "debug-signals": "shared-signals.elf", "debug-waits": "signal-returns.elf", "debug-undefined": "undefined.elf",
@@ -181,6 +195,19 @@ def nested_sessions():
     yield "62-signals", "debug-62-signals", 0, "goto 700; where; regs; step 1; where; regs; mem 0x7dffffff2460 16; step 3; where; regs; back 4; where; goto 900; where; regs"
     yield "masked", "debug-masked", 0, "goto 40; where; regs; step 1; where; regs; goto 41; mem 0x7dfffffffdb0 16; goto 90; where; regs; za; back 50; where; za"
     yield "two-signals", "debug-two-signals", 0, "goto 40; where; step 1; where; regs; mem 0x7dfffffffdb0 16; mem 0x7dfffffffa20 16; step 1; where; regs; step 1; where; step 4; where; regs"
+    # over counts at which states are kept
+    all_of_it = "where; regs; za; slice b 0 h 4; mem 0x410000 64; mem 0x411c00 16; mem 0x412c00 16; mem 0x7dffffffffe0 32"
+    yield "goes-back-over-kept-states", "debug-keeps", 0, (
+        f"goto 266852; where; back 1; {all_of_it}; back 70243; {all_of_it}; back 1; {all_of_it}; back 65535; {all_of_it}; back 1; "
+        f"{all_of_it}; back 65535; {all_of_it}; back 1; {all_of_it}; back 65535; {all_of_it}; goto 131073; where; back 2; where")
+    yield "goes-on-over-kept-states", "debug-keeps", 0, (
+        f"goto 65535; where; step 1; where; step 1; where; goto 131071; regs; step 1; {all_of_it}; step 1; where; step 65535; {all_of_it}; "
+        f"goto 4294967295; where; regs; back 4294967295; where; step 196608; {all_of_it}")
+    yield "breaks-past-kept-states", "debug-keeps", 0, (
+        "goto 65530; break 0x400030; regs; za; break 0x4000e8; where; regs; break 0x4000f0; where; goto 131000; break 0x4000e4; where; regs; back 99; "
+        "regs; goto 196600; break 0x400090; where; back 4294967295; break 0x4000a4; where; regs")
+    yield "keeps-states-of-version-1", "debug-keeps-unmasked", 0, (
+        f"goto 131072; {all_of_it}; back 65536; {all_of_it}; goto 196608; {all_of_it}; back 66000; regs; step 1000; regs; za")
 
 
 def many_lines(count):
