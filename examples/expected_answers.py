@@ -10,8 +10,8 @@ expected_others.py. A word that these do not know is undefined.
 import re
 import sys
 
-import expected_others
 from expected import Thread
+from expected_others import KnowsAll
 
 DONE, BAD_VECTORS = 0, 14
 MOST_BYTES, MOST_LINES = 67_108_864, 2_048
@@ -99,7 +99,7 @@ def truths(digits):
     return [bool(byte >> k & 1) for byte in bytes.fromhex(digits) for k in range(8)]
 
 
-class Alone(Thread):
+class Alone(KnowsAll, Thread):
     """The state of a vector."""
 
     def __init__(self, word, fields, vl, svl):
@@ -136,12 +136,6 @@ class Alone(Thread):
 
     def call(self):
         raise Calls
-
-    def execute(self, word):
-        if expected_others.has_no_row(word):
-            return None
-        target = super().execute(word)
-        return expected_others.execute(word, self) if target is None else target
 
     def told(self):
         """The fields that are not zero."""

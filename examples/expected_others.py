@@ -417,3 +417,13 @@ def execute(word, thread):
         if word & mask == value and what(word, thread, 64 if word >> 31 else 32) is not False:
             return thread.pc + 4
     return None
+
+
+class KnowsAll:
+    """Before a thread's class: the thread knows every instruction."""
+
+    def execute(self, word):
+        if has_no_row(word):
+            return None
+        target = super().execute(word)
+        return execute(word, self) if target is None else target

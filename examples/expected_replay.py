@@ -11,6 +11,7 @@ import re
 import sys
 
 from expected import SHARED, Raised, Thread, block
+from report_faults import found
 
 
 class Parts(Exception):
@@ -58,6 +59,20 @@ def block_in(file, lines, number):
     return options, start, lines[start:lines.index("end-thread", start) + 1]
 
 
+def in_format(report):
+    """Refuses a report that is not in the format."""
+    fault = found(report)
+    if fault != "read":
+        line, part = fault.split()
+        raise Ends(9, f"bad report: line {line}: {part}\n")
+
+
+def opened(file, report, number):
+    """What `block_in` gives of a report that is yet to be looked at."""
+    in_format(report)
+    return block_in(file, report.decode().splitlines(), number)
+
+
 def run_alone(thread, count):
     """How the thread stops, which is to be at that count, with all events used."""
     stop = None
@@ -83,6 +98,14 @@ def count_of(block):
     return int(block[2].split()[1])
 
 
+def compared(ours, theirs, start):
+    """The status and the text where a block is to be that of the report, which begins at that line."""
+    for line, (a, b) in enumerate(itertools.zip_longest(theirs, ours, fillvalue=""), start + 1):
+        if a != b:
+            return 10, f"differs: line {line}\n{a}\n{b}\n"
+    return 0, "".join(line + "\n" for line in ours)
+
+
 def replay(file, report, number=0):
     """The status and the text."""
     try:
@@ -91,11 +114,7 @@ def replay(file, report, number=0):
         stop = run_alone(thread, count_of(theirs))
     except Ends as end:
         return end.args
-    ours = block(thread, stop, number)
-    for line, (a, b) in enumerate(itertools.zip_longest(theirs, ours, fillvalue=""), start + 1):
-        if a != b:
-            return 10, f"differs: line {line}\n{a}\n{b}\n"
-    return 0, "".join(line + "\n" for line in ours)
+    return compared(block(thread, stop, number), theirs, start)
 
 
 if __name__ == "__main__":

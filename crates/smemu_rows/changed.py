@@ -24,6 +24,7 @@ BYTES = b"019 x-\n\r\t\0\xff\xc3"
 NUMBERS = [b"0", b"1", b"00", b"01", b"7", b"8", b"63", b"64", b"255", b"256", b"4096", b"4097", b"65535", b"4294967295", b"4294967296", b"18446744073709551615",
            b"18446744073709551616", b"99999999999999999999999", b"-1", b"+1", b"1.0", b"0x1", b""]
 ADDRESSES = [b"0x0", b"0xffffffffffffffff", b"0x10000000000000000", b"0X0", b"0x", b"0x7dffffffffff", b"0x7e0000000000", b"0x7f0000000000", b"0x7fffffffffff", b"00x1"]
+REPEATED = re.compile(rb"(.)\1{16,}", re.DOTALL)
 
 
 class Unknown(Exception):
@@ -195,10 +196,19 @@ def answered_vectors(file, texts):
     return answers(file)
 
 
+def packed(content):
+    """Bytes as they stand in a case: a long run of one byte is said by its length."""
+    at, parts = 0, []
+    for run in REPEATED.finditer(content):
+        parts += [content[at:run.start()].hex(), f"{run[1].hex()}*{len(run[0])}"]
+        at = run.end()
+    return "+".join(part for part in [*parts, content[at:].hex()] if part) or "-"
+
+
 def case(content, changes, answer):
     """The line of a case."""
     status, text = answer(after(content, changes))
-    changed = "".join(f"{start} {end} {new.hex() or '-'} " for start, end, new in changes)
+    changed = "".join(f"{start} {end} {packed(new)} " for start, end, new in changes)
     return f"{changed}{status}\t{shortened(text)}\n"
 
 

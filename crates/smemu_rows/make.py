@@ -27,6 +27,7 @@ from workload import bench_line, text as workload_text
 from abi_rows import abi_rows
 from altered import TWO_THREADS, altered_list, two_threads
 from changed import changed_list, group
+from checkpoints import checkpoint_rows, checkpoints
 from debug_rows import debug_rows
 from expected_debug import listed
 from frames import frames
@@ -688,7 +689,8 @@ def words_of(options):
 # rows of each command, whose reads and writes fail in turn as well
 FAILING = ("answer.elf", "writes-33-and-then-to-2.elf", "answer.s", "listing-words.elf", "replay-answer-as-it-is.report", "replay-version-2-of-two-threads.report",
            "plan-of-the-example.plan", "plan-has-every-refusal.plan", "debug-shows-all-in-the-middle.script", "gen-77", "bench-1-on-1", "refused-empty.elf",
-           "source-unknown-first.s", "mixed-lines-128-256.vectors", "abi-check-second-loses.report")
+           "source-unknown-first.s", "mixed-lines-128-256.vectors", "abi-check-second-loses.report", "ckpt-answer.report", "ckpt-answer-past-its-count.report",
+           "resume-answer.report", "resume-answer-with-another-sp.report", "resume-answer-of-no-checkpoint.report")
 
 
 def main():
@@ -723,10 +725,13 @@ def main():
     rows += [(f"{name}.elf", None, file, "", "") for name, file in abi_files.items()] + [(name, None, text.encode(), "", "") for name, text in abi_reports.items()]
     rows += [(f"abi-check-{name}.report", status, abi_reports[f"abi-{name}.report"].encode(), text, {"abi-check": "", f"abi-{name}.elf": "", "0": ""})
              for name, (status, text) in ((name, abi_check(abi_files[f"abi-{name}"], abi_reports[f"abi-{name}.report"].encode(), 0)) for name in ("twice", "second-loses"))]
+    rows += checkpoint_rows(contents)
+    checkpoint_files, checkpoint_list = checkpoints(contents)
+    rows += [(name, None, content, "", "") for name, content in checkpoint_files.items()]
     moved_lines = group("source-with-lines-that-move.s", "asm @", SOURCE, source_changes(), asm, 2000)
     changed = changed_list({name: words_of(options) for name, _, _, _, options in rows}, contents, listed(), moved_lines)
     vector_lines, altered_vectors = vector_lists(contents), altered_steps()
-    for old in [*data.glob("*.txt"), *data.glob("*.s"), *data.glob("*.report"), *data.glob("*.plan"), *data.glob("*.script")]:
+    for old in [*data.glob("*.txt"), *data.glob("*.s"), *data.glob("*.report"), *data.glob("*.plan"), *data.glob("*.script"), *data.glob("*.ckpt")]:
         if not old.name.endswith(".vectors.txt"):
             old.unlink()
     for old in data.glob("*.elf"):
@@ -740,10 +745,11 @@ def main():
     rows = [row for row in rows if row[1] is not None]
     (data / "rows.txt").write_text("".join(f"{name} {status} {words_of(options)}\n" for name, status, _, _, options in rows))
     (data / "failing.txt").write_text("".join(f"{name} {status} {words_of(options)}\n" for name, status, _, _, options in rows if name in FAILING))
-    for name, text in ("altered", altered), ("changed", changed), ("frames", framed_list), ("vector_lines", vector_lines), ("abi", abi_list), ("altered_steps", altered_vectors):
+    for name, text in ("altered", altered), ("changed", changed), ("frames", framed_list), ("vector_lines", vector_lines), ("abi", abi_list), ("checkpoints", checkpoint_list), \
+            ("altered_steps", altered_vectors):
         (data / f"{name}.txt").write_text(text)
     (HERE / "stdout").write_text("".join(told(*argument.split("=")) for argument in (HERE / "args").read_text().split()))
-    cases = (altered + changed + framed_list + vector_lines + abi_list).count("\t")
+    cases = (altered + changed + framed_list + vector_lines + abi_list + checkpoint_list).count("\t")
     print(f"{len(rows)} rows, {cases} changed files")
 
 

@@ -10,11 +10,10 @@ import sys
 
 sys.path.insert(0, str(pathlib.Path(__file__).resolve().parent.parent.parent / "examples"))
 from expected import SHARED, signed
-from expected_replay import Ends, Parts, Replayed, block_in, count_of, events_of
+from expected_replay import Ends, Parts, Replayed, count_of, events_of, opened
 from lazy import DISABLE, RESTORE, TAIL
-from report_faults import found
 
-BAD_REPORT, DIFFERS, UNLAWFUL = 9, 10, 13
+DIFFERS, UNLAWFUL = 10, 13
 MASK = (1 << 64) - 1
 OPEN_LIMIT = 256
 ANY, EXECUTE, WRITE, READ = 0, 1, 2, 4
@@ -166,15 +165,6 @@ def watched_run(thread, count):
     if len(thread.journal) < len(thread.events):
         raise Ends(DIFFERS, f"differs: journallong {len(thread.events) - len(thread.journal)}\n")
     return (UNLAWFUL, told) if told else (0, f"abi yes calls {watch.returned} open {len(watch.open)}\n")
-
-
-def opened(file, report, number):
-    """The options of a report that is in the format, and the line and the lines of the block of a thread."""
-    fault = found(report)
-    if fault != "read":
-        line, part = fault.split()
-        raise Ends(BAD_REPORT, f"bad report: line {line}: {part}\n")
-    return block_in(file, report.decode().splitlines(), number)
 
 
 def abi_check(file, report, number):
