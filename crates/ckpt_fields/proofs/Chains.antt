@@ -12,15 +12,15 @@ use Rattle.field_table.proofs.Reading.{reads_more, fails_more}
 use Rattle.ckpt_fields.specs.Told.{Answers}
 
 -- some fields, and then what a part answers
-pub answers_more : {R : Type 0} (table between : Table) (values : List (List ℕ)) (told : R → List (List ℕ)) (next : R → Table) (from through to : Left)
-    (result : Result R BadField) → Reads table values between from through → Answers between told next through to result
-    → Answers table (λ r. values ++ told r) next from to result
+pub answers_more : {R : Type 0} (table between : Table) (values : List (List ℕ)) (told : R → List (List ℕ)) (next : R → Table)
+    (from through to : Left) (result : Result R BadField) → Reads table values between from through
+    → Answers between told next through to result → Answers table (λ r. values ++ told r) next from to result
 answers_more table between values told next from through to (Ok r) h k = reads_more h k
 answers_more table between values told next from through to (Err fault) h k = fails_more h k
 
 -- a fault that is passed on
-pub passed_on : {R : Type 0} (result : Result R BadField) (fault : BadField) (table : Table) (told : R → List (List ℕ)) (next : R → Table) (from to : Left)
-    → IsErrAnd result (λ f. f ≡ fault) → Fails table from fault → Answers table told next from to result
+pub passed_on : {R : Type 0} (result : Result R BadField) (fault : BadField) (table : Table) (told : R → List (List ℕ)) (next : R → Table)
+    (from to : Left) → IsErrAnd result (λ f. f ≡ fault) → Fails table from fault → Answers table told next from to result
 passed_on (Ok r) fault table told next from to h k = absurd h
 passed_on (Err f) fault table told next from to h k = subst (λ g. Fails table from g) (sym h) k
 

@@ -1,10 +1,10 @@
 -- Faults that are passed on, and those of the whole file.
-use Rattle.std.proofs.Common.{◌≡◌, ℕ, ◌<◌, ◌≤◌, ◌++◌, Bool, true, false, List, [], ◌∷◌, length, Option, Some, None, Result, Ok, Err, refl, ap, sym, ◌∙◌, subst, arith}
-use Rattle.std.specs.Prelude.{IsErrAnd, IfErr, nat_lt, option_map, if◌then◌else◌}
+use Rattle.std.proofs.Common.{◌≡◌, ℕ, ◌<◌, ◌≤◌, ◌++◌, true, false, List, [], length, Some, None, Result, Ok, Err, refl, ap, sym, ◌∙◌, subst, arith}
+use Rattle.std.specs.Prelude.{IsErrAnd, IfErr, nat_lt, option_map}
 use Rattle.std.specs.List.{concat}
 use Rattle.std.proofs.lemmas.Bool.Decides.{nat_tests}
 use Rattle.std.proofs.lemmas.List.{append-nil}
-use Rattle.field_table.specs.Table.{Table, End, first_bad, Passes, IsFilled}
+use Rattle.field_table.specs.Table.{Table, End, first_bad, IsFilled}
 use Rattle.field_table.specs.Reading.{Left, Reads, Fails}
 use Rattle.field_table.specs.declared.place.BadField.{BadField}
 use Rattle.field_table.proofs.Tables.{passes_filled, filled_reads}
@@ -16,16 +16,17 @@ use Rattle.ckpt_fields.specs.declared.fault.CkptFault.{CkptFault}
 use Rattle.ckpt_fields.specs.declared.fault.CkptFault.TheVariants.{TooLong, Field, Memory}
 
 -- a bad field that is told as a fault of the file
-pub told_on : {R : Type 0} (result : Result R CkptFault) (fault : BadField) (table : Table) (told : R → List (List ℕ)) (next : R → Table) (from to : Left)
-    → IsErrAnd result (λ f. f ≡ Field fault.offset) → Fails table from fault → AnswersOrLacks table told next from to result
+pub told_on : {R : Type 0} (result : Result R CkptFault) (fault : BadField) (table : Table) (told : R → List (List ℕ)) (next : R → Table)
+    (from to : Left) → IsErrAnd result (λ f. f ≡ Field fault.offset) → Fails table from fault
+    → AnswersOrLacks table told next from to result
 told_on (Ok r) fault table told next from to h k = absurd h
 told_on (Err f) fault table told next from to h k =
     let as_fault : IsFault table from (Field fault.offset) = record { bad = k.bad } in
     subst (λ g. IsFault table from g) (sym h) as_fault
 
 -- a fault of the file that is passed on
-pub fault_on : {R : Type 0} (result : Result R CkptFault) (fault : CkptFault) (table : Table) (told : R → List (List ℕ)) (next : R → Table) (from to : Left)
-    → IsErrAnd result (λ f. f ≡ fault) → IsFault table from fault → AnswersOrLacks table told next from to result
+pub fault_on : {R : Type 0} (result : Result R CkptFault) (fault : CkptFault) (table : Table) (told : R → List (List ℕ)) (next : R → Table)
+    (from to : Left) → IsErrAnd result (λ f. f ≡ fault) → IsFault table from fault → AnswersOrLacks table told next from to result
 fault_on (Ok r) fault table told next from to h k = absurd h
 fault_on (Err f) fault table told next from to h k = subst (λ g. IsFault table from g) (sym h) k
 

@@ -4,7 +4,7 @@
 --
 -- Offset           Bytes    Content, and what it must be
 -- 0, 8             8, 32    the bytes of `SMECKPT1`; the program's digest, as in the report
--- 40 to 60         4        VL and SVL in bits, slice, budget, threads, the kernel's version, as in the report
+-- 40 to 60         4        VL and SVL in bits, slice, budget, threads, kernel's version, as in the report
 -- 64, 68           4        the thread, below the threads; its count, below that of its block and the budget
 -- 72               4        events used so far, at most those of its block's journal and at most 262,144
 -- 76               4        its depth, at most 1 in version 1 of the kernel and at most 64 in version 2

@@ -16,7 +16,8 @@ IsFault table from Memory = Unit {0}
 
 -- the answer of what reads some fields of a table, whose values the answer tells: they are read, and what
 -- follows is this table; or the fault is that of the first bad one
-abbrev pub Answers : {R : Type 0} → Table → (R → List (List ℕ)) → (R → Table) → Left → Left → Result R BadField → Type 0
+abbrev pub Answers :
+    {R : Type 0} → Table → (R → List (List ℕ)) → (R → Table) → Left → Left → Result R BadField → Type 0
 Answers table values next from to (Ok r) = Reads table (values r) (next r) from to
 Answers table values next from to (Err fault) = Fails table from fault
 

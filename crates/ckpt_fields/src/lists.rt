@@ -90,8 +90,9 @@ fn is_page_address(least: u64, address: u64) -> bool
 
 /// Reads a page, whose address is the least or above it.
 fn read_page(alloc: Global, place: &mut Place, least: u64) -> Result<PageImage, CkptFault>
-    ensures read { (next : ℕ → Table) → AnswersOrLacks (row.page_row least next) (λ p. page_value (page_said p))
-        (λ p. next (p.address + 1)) (left_of place.old) (left_of place.new) result }
+    ensures read { (next : ℕ → Table) → AnswersOrLacks (row.page_row least next)
+        (λ p. page_value (page_said p)) (λ p. next (p.address + 1)) (left_of place.old) (left_of place.new)
+        result }
     ensures aligned { IfOk result (λ p. p.address % 4096 ≡ 0) }
     ensures narrow { IfOk result IsNarrowPage }
 {

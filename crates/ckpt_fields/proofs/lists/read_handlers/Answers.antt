@@ -1,4 +1,4 @@
-use Rattle.std.proofs.Common.{◌≡◌, ℕ, ◌+◌, ◌++◌, ◌∷◌, [], All, length, map, refl, ap, sym, ◌∙◌, subst, arith}
+use Rattle.std.proofs.Common.{◌≡◌, ◌+◌, ◌++◌, ◌∷◌, [], All, length, map, refl, ap, sym, ◌∙◌, subst, arith}
 use Rattle.std.specs.Prelude.{nat_le, ◌≤◌, true}
 use Rattle.std.proofs.lemmas.Bool.Decides.{nat_tests}
 use Rattle.std.specs.List.{flat_map}
@@ -16,7 +16,7 @@ use Rattle.ckpt_fields.proofs.lists.read_handlers.Goals as goal
 pub returns-in_err-pass_word-clause-read : goal.returns-in_err-pass_word-clause-read
 unfolding handlers_of
 returns-in_err-pass_word-clause-read c = λ next.
-    told_on c.from_residual.result c.in_err-pass_word.field-0.0 _ _ _ _ _ c.from_residual.ensures.1
+    told_on _ _ _ _ _ _ _ c.from_residual.ensures.1
     (c.in_err-pass_word.ensures.read (λ n. nat_le n 62) (λ n. repeated handler_row n 0 next) refl)
 
 pub handlers-init : goal.handlers-init
@@ -35,7 +35,7 @@ handlers-init c =
 
 pub returns-in_err-handler-clause-read : goal.returns-in_err-handler-clause-read
 returns-in_err-handler-clause-read c = λ next.
-    told_on c.from_residual-in_err-handler.result c.in_err-handler.field-0.0 _ _ _ _ _ c.from_residual-in_err-handler.ensures.1
+    told_on _ _ _ _ _ _ _ c.from_residual-in_err-handler.ensures.1
     (item_fails handler_row c.word-count.result c.handlers._k c.handlers.last next (handlers_of next) _ _ _ c.in_err-handler.field-0.0
     c.handlers-test.true (c.handlers.invariant.read next) (λ follows. c.in_err-handler.ensures.read follows))
 

@@ -1,4 +1,4 @@
-use Rattle.std.proofs.Common.{◌≡◌, ◌-◌, ◌≤◌, ◌++◌, [], ◌∷◌, All, map, length}
+use Rattle.std.proofs.Common.{◌≡◌, ◌-◌, ◌++◌, [], ◌∷◌, All, map, length}
 use Rattle.std.specs.List.{flat_map}
 use Rattle.field_table.specs.Table.{Table}
 use Rattle.field_table.specs.Rows.{repeated}

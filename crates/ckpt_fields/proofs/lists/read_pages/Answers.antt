@@ -1,4 +1,4 @@
-use Rattle.std.proofs.Common.{◌≡◌, ℕ, ◌+◌, ◌++◌, ◌∷◌, [], All, length, map, refl, ap, sym, ◌∙◌, subst, arith}
+use Rattle.std.proofs.Common.{◌≡◌, ◌+◌, ◌++◌, ◌∷◌, [], All, length, map, refl, ap, sym, ◌∙◌, subst, arith}
 use Rattle.std.specs.Prelude.{nat_le, ◌≤◌, true}
 use Rattle.std.proofs.lemmas.Bool.Decides.{nat_tests}
 use Rattle.std.specs.List.{flat_map}
@@ -17,7 +17,7 @@ use Rattle.ckpt_fields.proofs.lists.read_pages.Goals as goal
 pub returns-in_err-pass_word-clause-read : goal.returns-in_err-pass_word-clause-read
 unfolding pages_of
 returns-in_err-pass_word-clause-read c =
-    told_on c.from_residual.result c.in_err-pass_word.field-0.0 _ _ _ _ _ c.from_residual.ensures.1
+    told_on _ _ _ _ _ _ _ c.from_residual.ensures.1
     (c.in_err-pass_word.ensures.read (λ n. nat_le n 4096) (λ n. repeated page_row n 0 End) refl)
 
 pub pages-init : goal.pages-init
@@ -36,7 +36,7 @@ pages-init c =
 
 pub returns-in_err-page-clause-read : goal.returns-in_err-page-clause-read
 returns-in_err-page-clause-read c =
-    fault_on c.from_residual-in_err-page.result c.in_err-page.field-0.0 _ _ _ _ _ c.from_residual-in_err-page.ensures.1
+    fault_on _ _ _ _ _ _ _ c.from_residual-in_err-page.ensures.1
     (item_fault page_row c.word-count.result c.pages._k c.pages.least End pages_of _ _ _ c.in_err-page.field-0.0
     c.pages-test.true (c.pages.invariant.read) (λ follows. c.in_err-page.ensures.read follows))
 

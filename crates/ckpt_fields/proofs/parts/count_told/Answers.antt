@@ -1,4 +1,4 @@
-use Rattle.std.proofs.Common.{rules, ◌<◌, length, ◌∙◌}
+use Rattle.std.proofs.Common.{rules, ◌<◌, length}
 use Rattle.ckpt_fields.proofs.Blocks.{told_at}
 use Rattle.ckpt_fields.proofs.parts.count_told.Goals as goal
 

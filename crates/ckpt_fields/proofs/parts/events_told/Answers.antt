@@ -4,5 +4,7 @@ use Rattle.ckpt_fields.proofs.parts.events_told.Goals as goal
 
 pub returns : goal.returns
 returns c =
-    let inside : c.args.thread < length c.args.report.now.blocks.items = search rules in
-    c.len.ensures ∙ c.index.result.now.journal.ok.0 ∙ told_at (λ block. length block.journal) c.args.report.now.blocks.items c.args.thread c.index.result.now c.index.ensures inside
+    let blocks = c.args.report.now.blocks.items in
+    let inside : c.args.thread < length blocks = search rules in
+    c.len.ensures ∙ c.index.result.now.journal.ok.0
+    ∙ told_at (λ block. length block.journal) blocks c.args.thread c.index.result.now c.index.ensures inside

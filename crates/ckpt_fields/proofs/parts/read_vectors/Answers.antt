@@ -1,27 +1,38 @@
-use Rattle.std.proofs.Common.{ℕ, ◌*◌, ◌/◌, refl, ap, ◌∙◌}
+use Rattle.std.proofs.Common.{◌*◌, ◌/◌, refl, ap, ◌∙◌}
 use Rattle.sm_types.specs.Options.{numbers_of}
-use Rattle.field_table.specs.Rows.{fields, rows}
 use Rattle.field_table.proofs.Reading.{reads_more, fails_more}
-use Rattle.ckpt_fields.specs.Rows.{length_for, array_size, vector_rows}
+use Rattle.ckpt_fields.specs.Rows.{array_size, vector_rows}
 use Rattle.ckpt_fields.specs.Values.{vectors_said}
 use Rattle.ckpt_fields.proofs.Chains.{passed_on, fields_as, fields_fail_as}
 use Rattle.ckpt_fields.proofs.parts.read_vectors.Goals as goal
 
 pub returns-in_err-z-clause-read : goal.returns-in_err-z-clause-read
 unfolding vector_rows vectors_said
-returns-in_err-z-clause-read c = λ next. passed_on c.from_residual.result c.in_err-z.field-0.0 _ _ _ _ _ c.from_residual.ensures.1 (fields_fail_as (fields 17 (length_for (numbers_of c.args.config.now) c.args.svcr / 8) (fields (array_size (numbers_of c.args.config.now) c.args.svcr) ((numbers_of c.args.config.now).svl / 8) next)) _ _ _ _ _ _ refl c.length_for-length.ensures.value (c.in_err-z.ensures.read (fields 17 (length_for (numbers_of c.args.config.now) c.args.svcr / 8) (fields (array_size (numbers_of c.args.config.now) c.args.svcr) ((numbers_of c.args.config.now).svl / 8) next))))
+returns-in_err-z-clause-read c = λ next.
+    passed_on _ _ _ _ _ _ _ c.from_residual.ensures.1
+    (fields_fail_as _ _ _ _ _ _ _ refl c.length_for-length.ensures.value (c.in_err-z.ensures.read _))
 
 pub returns-in_err-predicates-clause-read : goal.returns-in_err-predicates-clause-read
 unfolding vector_rows vectors_said
-returns-in_err-predicates-clause-read c = λ next. passed_on c.from_residual-in_err-predicates.result c.in_err-predicates.field-0.0 _ _ _ _ _ c.from_residual-in_err-predicates.ensures.1 (fails_more (fields_as (fields 17 (length_for (numbers_of c.args.config.now) c.args.svcr / 8) (fields (array_size (numbers_of c.args.config.now) c.args.svcr) ((numbers_of c.args.config.now).svl / 8) next)) _ _ _ _ _ _ _ refl c.length_for-length.ensures.value (c.in_ok-z.ensures.read (fields 17 (length_for (numbers_of c.args.config.now) c.args.svcr / 8) (fields (array_size (numbers_of c.args.config.now) c.args.svcr) ((numbers_of c.args.config.now).svl / 8) next)))) (fields_fail_as (fields (array_size (numbers_of c.args.config.now) c.args.svcr) ((numbers_of c.args.config.now).svl / 8) next) _ _ _ _ _ _ refl (ap (λ k. k / 8) c.length_for-length.ensures.value) (c.in_err-predicates.ensures.read (fields (array_size (numbers_of c.args.config.now) c.args.svcr) ((numbers_of c.args.config.now).svl / 8) next))))
+returns-in_err-predicates-clause-read c = λ next.
+    passed_on _ _ _ _ _ _ _ c.from_residual-in_err-predicates.ensures.1
+    (fails_more (fields_as _ _ _ _ _ _ _ _ refl c.length_for-length.ensures.value (c.in_ok-z.ensures.read _))
+    (fields_fail_as _ _ _ _ _ _ _ refl (ap (λ k. k / 8) c.length_for-length.ensures.value) (c.in_err-predicates.ensures.read _)))
 
 pub returns-in_err-za-clause-read : goal.returns-in_err-za-clause-read
 unfolding vector_rows vectors_said
-returns-in_err-za-clause-read c = λ next. passed_on c.from_residual-in_err-za.result c.in_err-za.field-0.0 _ _ _ _ _ c.from_residual-in_err-za.ensures.1 (fails_more (fields_as (fields 17 (length_for (numbers_of c.args.config.now) c.args.svcr / 8) (fields (array_size (numbers_of c.args.config.now) c.args.svcr) ((numbers_of c.args.config.now).svl / 8) next)) _ _ _ _ _ _ _ refl c.length_for-length.ensures.value (c.in_ok-z.ensures.read (fields 17 (length_for (numbers_of c.args.config.now) c.args.svcr / 8) (fields (array_size (numbers_of c.args.config.now) c.args.svcr) ((numbers_of c.args.config.now).svl / 8) next)))) (fails_more (fields_as (fields (array_size (numbers_of c.args.config.now) c.args.svcr) ((numbers_of c.args.config.now).svl / 8) next) _ _ _ _ _ _ _ refl (ap (λ k. k / 8) c.length_for-length.ensures.value) (c.in_ok-predicates.ensures.read (fields (array_size (numbers_of c.args.config.now) c.args.svcr) ((numbers_of c.args.config.now).svl / 8) next))) (fields_fail_as next _ _ _ _ _ _ c.array_size.ensures.value c.bytes.ensures (c.in_err-za.ensures.read next))))
+returns-in_err-za-clause-read c = λ next.
+    passed_on _ _ _ _ _ _ _ c.from_residual-in_err-za.ensures.1
+    (fails_more (fields_as _ _ _ _ _ _ _ _ refl c.length_for-length.ensures.value (c.in_ok-z.ensures.read _))
+    (fails_more (fields_as _ _ _ _ _ _ _ _ refl (ap (λ k. k / 8) c.length_for-length.ensures.value) (c.in_ok-predicates.ensures.read _))
+    (fields_fail_as _ _ _ _ _ _ _ c.array_size.ensures.value c.bytes.ensures (c.in_err-za.ensures.read _))))
 
 pub returns-clause-read : goal.returns-clause-read
 unfolding vector_rows vectors_said
-returns-clause-read c = λ next. (reads_more (fields_as (fields 17 (length_for (numbers_of c.args.config.now) c.args.svcr / 8) (fields (array_size (numbers_of c.args.config.now) c.args.svcr) ((numbers_of c.args.config.now).svl / 8) next)) _ _ _ _ _ _ _ refl c.length_for-length.ensures.value (c.in_ok-z.ensures.read (fields 17 (length_for (numbers_of c.args.config.now) c.args.svcr / 8) (fields (array_size (numbers_of c.args.config.now) c.args.svcr) ((numbers_of c.args.config.now).svl / 8) next)))) (reads_more (fields_as (fields (array_size (numbers_of c.args.config.now) c.args.svcr) ((numbers_of c.args.config.now).svl / 8) next) _ _ _ _ _ _ _ refl (ap (λ k. k / 8) c.length_for-length.ensures.value) (c.in_ok-predicates.ensures.read (fields (array_size (numbers_of c.args.config.now) c.args.svcr) ((numbers_of c.args.config.now).svl / 8) next))) (fields_as next _ _ _ _ _ _ _ c.array_size.ensures.value c.bytes.ensures (c.in_ok-za.ensures.read next))))
+returns-clause-read c = λ next.
+    reads_more (fields_as _ _ _ _ _ _ _ _ refl c.length_for-length.ensures.value (c.in_ok-z.ensures.read _))
+    (reads_more (fields_as _ _ _ _ _ _ _ _ refl (ap (λ k. k / 8) c.length_for-length.ensures.value) (c.in_ok-predicates.ensures.read _))
+    (fields_as _ _ _ _ _ _ _ _ c.array_size.ensures.value c.bytes.ensures (c.in_ok-za.ensures.read _)))
 
 pub returns-clause-sizes : goal.returns-clause-sizes
 returns-clause-sizes c =
