@@ -104,7 +104,8 @@ module _ (vl svl : VecLen) where
       ap (λ m. modes_with m fields) same
       ∙ late modes (rank f + 1) fields (omega (arith, h.1)) (subst (λ (m : Modes). FitFrom m (rank f + 1) fields) same h.2)
 
-  as_last : (modes : Modes) (f : Field) (fields : List Field) → fits vl svl modes f ≡ true → FitFrom (modes_after modes f) (rank f + 1) fields
+  as_last : (modes : Modes) (f : Field) (fields : List Field) → fits vl svl modes f ≡ true
+      → FitFrom (modes_after modes f) (rank f + 1) fields
       → fits vl svl (modes_with (modes_after modes f) fields) f ≡ true
   unfolding fits rank
   as_last modes (field.X n value) fields e h = e
@@ -201,11 +202,13 @@ module _ (vl svl : VecLen) where
   answered_fit lines (Err it) h = tt
 
   -- each vector of the code is one
-  pub each_fit : (xs : List code.Vector) (k : ℕ) (it : code.Vector) → All (IsVector vl svl) (map vector_told xs) → k < length xs → it ≡ get_or xs k it
+  pub each_fit : (xs : List code.Vector) (k : ℕ) (it : code.Vector) → All (IsVector vl svl) (map vector_told xs) → k < length xs
+      → it ≡ get_or xs k it
       → All (λ f. fits vl svl (modes_of (vector_told it).fields) f ≡ true) (vector_told it).fields
   each_fit xs k it h l is =
       let inside : k < length (map vector_told xs) = omega (arith, length-map xs vector_told) in
-      let same : get_or (map vector_told xs) k (vector_told it) ≡ vector_told it = get_or-map vector_told xs k it ∙ ap vector_told (sym is) in
+      let same : get_or (map vector_told xs) k (vector_told it) ≡ vector_told it = get_or-map vector_told xs k it
+      ∙ ap vector_told (sym is) in
       (subst (IsVector vl svl) same (h k (vector_told it) inside)).fit
 
   -- so is each of a share

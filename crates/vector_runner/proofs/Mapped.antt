@@ -22,7 +22,8 @@ pub mapped_more : {A B : Type 0} (h : A → B) (xs : List A) (i : ℕ) (x : A) �
 mapped_more h xs i x l is =
     ap (map h) (take_more xs i x l ∙ ap (λ y. take i xs ++ y ∷ []) (sym is)) ∙ map-append h (take i xs) (x ∷ [])
 
-pub with_last : (s : ProcessorState) (fields : List Field) (f : Field) → with_fields s (fields ++ f ∷ []) ≡ with_field (with_fields s fields) f
+pub with_last : (s : ProcessorState) (fields : List Field) (f : Field)
+    → with_fields s (fields ++ f ∷ []) ≡ with_field (with_fields s fields) f
 unfolding with_fields
 with_last s [] f = refl
 with_last s (e ∷ fields) f = with_last (with_field s e) fields f
@@ -66,12 +67,14 @@ module _ (xs : List code.Field) (i : ℕ) (it : code.Field) (l : i < length xs) 
   pub state_more : (first now next : ProcessorState) → now ≡ with_fields first (map field_told (take i xs))
       → next ≡ with_field now (field_told it) → next ≡ with_fields first (map field_told (take (i + 1) xs))
   state_more first now next h e =
-      e ∙ ap (λ s. with_field s (field_told it)) h ∙ sym (ap (with_fields first) told_more ∙ with_last first (map field_told (take i xs)) (field_told it))
+      e ∙ ap (λ s. with_field s (field_told it)) h
+      ∙ sym (ap (with_fields first) told_more ∙ with_last first (map field_told (take i xs)) (field_told it))
 
   pub modes_more : (now next : Modes) → now ≡ modes_of (map field_told (take i xs)) → next ≡ modes_after now (field_told it)
       → next ≡ modes_of (map field_told (take (i + 1) xs))
   modes_more now next h e =
-      e ∙ ap (λ m. modes_after m (field_told it)) h ∙ sym (ap modes_of told_more ∙ modes_last no_modes (map field_told (take i xs)) (field_told it))
+      e ∙ ap (λ m. modes_after m (field_told it)) h
+      ∙ sym (ap modes_of told_more ∙ modes_last no_modes (map field_told (take i xs)) (field_told it))
 
 pub fields_end : (xs : List code.Field) (i : ℕ) → length xs ≤ i → map field_told (take i xs) ≡ map field_told xs
 fields_end xs i l = ap (map field_told) (all_taken xs i l)
@@ -80,7 +83,8 @@ pub parts_end : {A : Type 0} (f : A → List ℕ) (xs : List A) (i : ℕ) → le
 parts_end f xs i l = ap (flat_map f) (all_taken xs i l)
 
 -- an answer more
-pub answers_more : (vl svl : VecLen) (xs : List code_vector.Vector) (i : ℕ) (it : code_vector.Vector) (now next : List (List ℕ)) (line : List ℕ)
+pub answers_more : (vl svl : VecLen) (xs : List code_vector.Vector) (i : ℕ) (it : code_vector.Vector) (now next : List (List ℕ))
+    (line : List ℕ)
     → i < length xs → it ≡ get_or xs i it → now ≡ answers vl svl (map vector_told (take i xs)) → line ≡ answer vl svl (vector_told it)
     → next ≡ now ++ line ∷ [] → next ≡ answers vl svl (map vector_told (take (i + 1) xs))
 unfolding answers

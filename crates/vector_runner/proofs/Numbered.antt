@@ -61,7 +61,8 @@ last_other [] b e =
     let no : are_zero (b ∷ []) ≡ false = ap (λ t. t && true) e in
     ap (λ t. cond t [] (b ∷ [])) no
 last_other (x ∷ xs) b e =
-    let no : are_zero (x ∷ xs ++ b ∷ []) ≡ false = zeros_both (x ∷ xs) b ∙ ap (λ t. are_zero (x ∷ xs) && t) e ∙ and_false (are_zero (x ∷ xs)) in
+    let no : are_zero (x ∷ xs ++ b ∷ []) ≡ false = zeros_both (x ∷ xs) b ∙ ap (λ t. are_zero (x ∷ xs) && t) e
+    ∙ and_false (are_zero (x ∷ xs)) in
     ap (λ t. cond t [] (x ∷ up_to_last (xs ++ b ∷ []))) no ∙ ap (λ l. x ∷ l) (last_other xs b e)
 
 -- one byte more is looked at
@@ -69,7 +70,8 @@ pub end_more : (xs : List ℕ) (at end : ℕ) (next : ℕ) → at < length xs �
     → next ≡ cond (get_or xs at 0 == 0) end (at + 1) → (next ≤ at + 1) × (take next xs ≡ up_to_last (take (at + 1) xs))
 end_more xs at end next l low so_far is =
     let byte = get_or xs at 0 in
-    elim (byte == 0) as (λ t. (byte == 0) ≡ t → next ≡ cond t end (at + 1) → (next ≤ at + 1) × (take next xs ≡ up_to_last (take (at + 1) xs))) [
+    elim (byte == 0) as (λ t. (byte == 0) ≡ t → next ≡ cond t end (at + 1)
+    → (next ≤ at + 1) × (take next xs ≡ up_to_last (take (at + 1) xs))) [
       | true ↦ λ zero n. (
           let none : byte ≡ 0 = grind (arith, nat_tests, zero) in (
             omega (arith, n),

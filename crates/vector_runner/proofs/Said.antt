@@ -56,7 +56,8 @@ field_unread vl svl modes least before word words is =
     ap (λ o. ahead before (before_others o (λ it. fields_in vl svl (modes_after modes it) (rank it + 1) words))) is
 
 -- the same of what the code answers, where want of memory says nothing
-pub field_outside : (vl svl : VecLen) (modes : Modes) (least : ℕ) (before : List Field) (word : List ℕ) (words : List (List ℕ)) (it : Unread)
+pub field_outside : (vl svl : VecLen) (modes : Modes) (least : ℕ) (before : List Field) (word : List ℕ) (words : List (List ℕ))
+    (it : Unread)
     (whole : Option (List Field)) → SaysAs field_told (field_here vl svl modes least word) (Err it)
     → ahead before (fields_in vl svl modes least (word ∷ words)) ≡ whole
     → SaysAs (λ (fields : Vec code.Field Global). map field_told fields.items) whole (Err it)
@@ -97,7 +98,8 @@ first_read vl svl before number place [] v some few is = absurd (some refl)
 first_read vl svl before number place (line ∷ lines) v some few is =
     sym (behind_more before number v (lines_said vl svl (number + 1) lines))
     ∙ ap (λ o. behind before (onto_others number o (lines_said vl svl (number + 1) lines))) (sym is)
-    ∙ ap (λ b. behind before (cond b (Err (Line (number + 1))) (onto_others number (line_said vl svl line) (lines_said vl svl (number + 1) lines))))
+    ∙ ap (λ b. behind before (cond b (Err (Line (number + 1)))
+    (onto_others number (line_said vl svl line) (lines_said vl svl (number + 1) lines))))
     (sym few)
 
 first_unread : (vl svl : VecLen) (before : List Vector) (number : ℕ) (lines : List (List ℕ))
@@ -106,7 +108,8 @@ first_unread : (vl svl : VecLen) (before : List Vector) (number : ℕ) (lines : 
 unfolding lines_said
 first_unread vl svl before number [] some few is = absurd (some refl)
 first_unread vl svl before number (line ∷ lines) some few is =
-    ap (λ b. behind before (cond b (Err (Line (number + 1))) (onto_others number (line_said vl svl line) (lines_said vl svl (number + 1) lines)))) few
+    ap (λ b. behind before (cond b (Err (Line (number + 1)))
+    (onto_others number (line_said vl svl line) (lines_said vl svl (number + 1) lines)))) few
     ∙ ap (λ o. behind before (onto_others number o (lines_said vl svl (number + 1) lines))) is
 
 first_past : (vl svl : VecLen) (before : List Vector) (number : ℕ) (lines : List (List ℕ))
@@ -115,7 +118,8 @@ first_past : (vl svl : VecLen) (before : List Vector) (number : ℕ) (lines : Li
 unfolding lines_said
 first_past vl svl before number [] some many = absurd (some refl)
 first_past vl svl before number (line ∷ lines) some many =
-    ap (λ b. behind before (cond b (Err (Line (number + 1))) (onto_others number (line_said vl svl line) (lines_said vl svl (number + 1) lines)))) many
+    ap (λ b. behind before (cond b (Err (Line (number + 1)))
+    (onto_others number (line_said vl svl line) (lines_said vl svl (number + 1) lines)))) many
 
 module _ (vl svl : VecLen) (before : List Vector) (left : Left) (some : length (next_line left) ≢ 0) where
   -- one line more

@@ -40,12 +40,14 @@ module _ {A B : Type 0} (vl svl : VecLen) (vectors : List Vector) (size : ℕ) w
   -- each share's answers are those of its vectors, the first of them number k
   abbrev AreShares : ℕ → List (Result (Vec (Vec ℕ A) B) Memory) → Type 0
   AreShares k rs = (i : ℕ) (d : Result (Vec (Vec ℕ A) B) Memory) → i < length rs
-      → IfOk (get_or rs i d) (λ lines. map (λ line. line.items) lines.items ≡ answers vl svl (map vector_told (slice_chunk vectors size (k + i))))
+      → IfOk (get_or rs i d) (λ lines. map (λ line. line.items) lines.items
+      ≡ answers vl svl (map vector_told (slice_chunk vectors size (k + i))))
 
   one : (k : ℕ) (r : Result (Vec (Vec ℕ A) B) Memory) → IsOk r
       → IfOk r (λ lines. map (λ line. line.items) lines.items ≡ answers vl svl (map vector_told (slice_chunk vectors size (k + 0))))
       → lines_of r ≡ answers vl svl (map vector_told (slice_chunk vectors size k))
-  one k (Ok lines) is e = let same : k + 0 ≡ k = omega arith in e ∙ ap (λ n. answers vl svl (map vector_told (slice_chunk vectors size n))) same
+  one k (Ok lines) is e =
+      let same : k + 0 ≡ k = omega arith in e ∙ ap (λ n. answers vl svl (map vector_told (slice_chunk vectors size n))) same
   one k (Err it) is e = cc
 
   joined : (k : ℕ) (rs : List (Result (Vec (Vec ℕ A) B) Memory)) → AreShares k rs → All (λ r. IsOk r) rs
@@ -66,13 +68,15 @@ module _ {A B : Type 0} (vl svl : VecLen) (vectors : List Vector) (size : ℕ) w
       ∙ next vl svl vectors size k
 
   from_first : (rs : List (Result (Vec (Vec ℕ A) B) Memory)) → ((i : ℕ) (d : Result (Vec (Vec ℕ A) B) Memory) → i < length rs
-      → IfOk (get_or rs i d) (λ lines. map (λ line. line.items) lines.items ≡ answers vl svl (map vector_told (slice_chunk vectors size i))))
+      → IfOk (get_or rs i d) (λ lines. map (λ line. line.items) lines.items
+      ≡ answers vl svl (map vector_told (slice_chunk vectors size i))))
       → AreShares 0 rs
   from_first rs h i d l = let same : 0 + i ≡ i = omega arith in rw same (h i d l)
 
   -- the answers of all shares are those of all vectors
   pub all_joined : (rs : List (Result (Vec (Vec ℕ A) B) Memory)) → ((i : ℕ) (d : Result (Vec (Vec ℕ A) B) Memory) → i < length rs
-      → IfOk (get_or rs i d) (λ lines. map (λ line. line.items) lines.items ≡ answers vl svl (map vector_told (slice_chunk vectors size i))))
+      → IfOk (get_or rs i d) (λ lines. map (λ line. line.items) lines.items
+      ≡ answers vl svl (map vector_told (slice_chunk vectors size i))))
       → All (λ r. IsOk r) rs → length vectors ≤ length rs * size → flat_map lines_of rs ≡ answers vl svl (map vector_told vectors)
   all_joined rs h ok enough =
       let all : length vectors ≤ (0 + length rs) * size = let same : 0 + length rs ≡ length rs = omega arith in rw same enough in
@@ -83,13 +87,15 @@ module _ {A B : Type 0} (vl svl : VecLen) (vectors : List Vector) (size : ℕ) w
 
 module _ {A B : Type 0} where
   -- one share less is left
-  pub joined_more : (rs rest : List (Result (Vec (Vec ℕ A) B) Memory)) (v : Vec (Vec ℕ A) B) (lines joined : List (Vec ℕ A)) (whole : List (List ℕ))
+  pub joined_more : (rs rest : List (Result (Vec (Vec ℕ A) B) Memory)) (v : Vec (Vec ℕ A) B) (lines joined : List (Vec ℕ A))
+      (whole : List (List ℕ))
       → rs ≡ rest ++ Ok v ∷ [] → joined ≡ v.items ++ lines → flat_map lines_of rs ++ map (λ line. line.items) lines ≡ whole
       → flat_map lines_of rest ++ map (λ line. line.items) joined ≡ whole
   joined_more rs rest v lines joined whole is e h =
       let items : List (Vec ℕ A) → List (List ℕ) = λ ls. map (λ line. line.items) ls in
       let last : flat_map lines_of rs ≡ flat_map lines_of rest ++ items v.items =
-      ap (flat_map lines_of) is ∙ flat_map-append lines_of rest (Ok v ∷ []) ∙ ap (λ l. flat_map lines_of rest ++ l) (append-nil (items v.items)) in
+      ap (flat_map lines_of) is ∙ flat_map-append lines_of rest (Ok v ∷ [])
+      ∙ ap (λ l. flat_map lines_of rest ++ l) (append-nil (items v.items)) in
       ap (λ ls. flat_map lines_of rest ++ items ls) e
       ∙ ap (λ l. flat_map lines_of rest ++ l) (map-append (λ line. line.items) v.items lines)
       ∙ sym (append_assoc (flat_map lines_of rest) (items v.items) (items lines))
@@ -111,7 +117,8 @@ share_from xs size start =
     ap (λ l. take (min (length l) size) l) same ∙ short
 
 pub share_is : {A : Type 0} (xs : List A) (size worker : ℕ)
-    → take (min (length (drop (min (length xs) (worker * size)) xs)) size) (drop (min (length xs) (worker * size)) xs) ≡ slice_chunk xs size worker
+    → take (min (length (drop (min (length xs) (worker * size)) xs)) size) (drop (min (length xs) (worker * size)) xs)
+    ≡ slice_chunk xs size worker
 share_is xs size worker = share_from xs size (worker * size)
 
 pub place_fits : (size worker : ℕ) → size ≤ 2048 → worker < 64 → worker * size ≤ 129024

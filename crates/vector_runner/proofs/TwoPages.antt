@@ -151,7 +151,8 @@ in_page m start bs a is l h some =
     let place : start + (a - start) ≡ a = omega arith in
     let read : slice_get (bytes_from m start 4096) (a - start) ≡ Some (unwrap_or (get m (start + (a - start))) 0) =
     byte_from m start 4096 (a - start) (omega arith) in
-    some_of (get m a) some ∙ ap (λ k. let o : Option ℕ = Some (unwrap_or (get m k) 0) in o) (sym place) ∙ sym read ∙ ap (λ l. slice_get l (a - start)) is
+    some_of (get m a) some ∙ ap (λ k. let o : Option ℕ = Some (unwrap_or (get m k) 0) in o) (sym place) ∙ sym read
+    ∙ ap (λ l. slice_get l (a - start)) is
 
 data Place (a : ℕ) : Type 0 where
   InData : 65536 ≤ a → a < 69632 → Place a
@@ -174,7 +175,8 @@ place_of a =
       ]
     ]
 
-outside : (start : ℕ) (bs : List ℕ) (a : ℕ) (old : Option ℕ) → length bs ≡ 4096 → (a < start) ⊎ (start + 4096 ≤ a) → over start bs a old ≡ old
+outside : (start : ℕ) (bs : List ℕ) (a : ℕ) (old : Option ℕ) → length bs ≡ 4096 → (a < start) ⊎ (start + 4096 ≤ a)
+    → over start bs a old ≡ old
 outside start bs a old long (inl l) = over-below start bs a old l
 outside start bs a old long (inr h) = over-above start bs a old (omega (arith, long))
 

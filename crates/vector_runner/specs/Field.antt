@@ -114,5 +114,6 @@ fits vl svl modes (Svcr streaming za_on) = true
 fits vl svl modes (Z n bytes) = nat_lt n 32 && (length bytes == current_bytes vl svl modes.streaming)
 fits vl svl modes (P n bytes) = nat_lt n 16 && (length bytes == current_bytes vl svl modes.streaming / 8)
 fits vl svl modes (Ffr bytes) = length bytes == current_bytes vl svl modes.streaming / 8
-fits vl svl modes (Za n bytes) = modes.za_on && (nat_lt n (vector_bytes svl) && (length bytes == vector_bytes svl))
+fits vl svl modes (Za n bytes) =
+    modes.za_on && (nat_lt n (vector_bytes svl) && (length bytes == vector_bytes svl))
 fits vl svl modes (M bytes) = nat_le 1 (length bytes) && nat_le (length bytes) 4096

@@ -98,8 +98,8 @@ pub record IsFileOf (vl svl : VecLen) (bytes : List ℕ) (vectors : List Vector)
   pub few : length vectors ≤ most_lines
   pub said : Say vl svl (lines_of bytes) vectors
 
--- a file's fault: it has too many bytes; or this is its first line, counted from 1, that is not in the grammar
--- or is past the most lines
+-- a file's fault: it has too many bytes; or this is its first line, counted from 1, that is not in the
+-- grammar or is past the most lines
 pub data Fault : Type 0 where
   TooLong : Fault
   Line : ℕ → Fault
@@ -148,4 +148,5 @@ lines_said vl svl before (line ∷ lines) =
 
 -- the vectors of a file, or its fault
 unfoldable pub vectors_in : VecLen → VecLen → List ℕ → Result (List Vector) Fault
-vectors_in vl svl bytes = if nat_lt most_bytes (length bytes) then Err TooLong else lines_said vl svl 0 (lines_of bytes)
+vectors_in vl svl bytes =
+    if nat_lt most_bytes (length bytes) then Err TooLong else lines_said vl svl 0 (lines_of bytes)

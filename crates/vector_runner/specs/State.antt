@@ -84,7 +84,8 @@ with_field s (Z n bytes) = with_registers s (vector_written s.bank.registers n b
 with_field s (P n bytes) = with_registers s (predicate_written s.bank.registers n (truths_of bytes))
 with_field s (Ffr bytes) = with_registers s (ffr_written s.bank.registers (truths_of bytes))
 with_field s (Za n bytes) = record s { bank = record s.bank { za = slice_set s.bank.za n bytes } }
-with_field s (M bytes) = record s { memory = record s.memory { mem = set_bytes s.memory.mem data_address bytes } }
+with_field s (M bytes) =
+    record s { memory = record s.memory { mem = set_bytes s.memory.mem data_address bytes } }
 
 -- with what each of some fields says
 unfoldable pub with_fields : ProcessorState → List Field → ProcessorState

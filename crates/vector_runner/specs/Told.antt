@@ -29,12 +29,12 @@ field_told (field.Za n bytes) = said.Za n bytes.items
 field_told (field.M bytes) = said.M bytes.items
 
 -- a field whose value is bytes, of them
-abbrev pub field_with : BytesField → List ℕ → Field
-field_with (of_bytes.Z n) = said.Z n
-field_with (of_bytes.P n) = said.P n
-field_with of_bytes.Ffr = said.Ffr
-field_with (of_bytes.Za n) = said.Za n
-field_with of_bytes.M = said.M
+abbrev pub with_bytes : BytesField → List ℕ → Field
+with_bytes (of_bytes.Z n) = said.Z n
+with_bytes (of_bytes.P n) = said.P n
+with_bytes of_bytes.Ffr = said.Ffr
+with_bytes (of_bytes.Za n) = said.Za n
+with_bytes of_bytes.M = said.M
 
 -- what a vector says
 abbrev pub vector_told : Vector → said.Vector

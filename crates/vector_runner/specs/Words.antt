@@ -102,7 +102,8 @@ field_with name value = option_and_then (λ k. field_of k value) (key_in name)
 
 -- the field that a word says, with = (61) between name and value
 unfoldable pub field_in : List ℕ → Option Field
-field_in word = option_and_then (λ at. field_with (take at word) (drop (at + 1) word)) (position (λ b. b == 61) word)
+field_in word =
+    option_and_then (λ at. field_with (take at word) (drop (at + 1) word)) (position (λ b. b == 61) word)
 
 -- a field that a state has, and that may stand here: its rank is not below this
 abbrev pub if_here : VecLen → VecLen → Modes → ℕ → Field → Option Field

@@ -6,7 +6,7 @@ ghost use Rattle.text_lines.specs.Rows as rows;
 ghost use Rattle.vector_runner.specs.Answer as spec;
 ghost use Rattle.vector_runner.specs.Field as said;
 ghost use Rattle.vector_runner.specs.Prepared.{core_in};
-ghost use Rattle.vector_runner.specs.Told.{field_told, field_with};
+ghost use Rattle.vector_runner.specs.Told.{field_told, with_bytes};
 
 use crate::state::{DATA, State};
 use crate::vector::Field;
@@ -124,7 +124,7 @@ pub enum BytesField {
 impl BytesField {
     /// The field with these bytes.
     fn with(self, bytes: Bytes) -> Field
-        ensures { field_told result ≡ field_with self bytes.items }
+        ensures { field_told result ≡ with_bytes self bytes.items }
     {
         match self {
             BytesField::Z(n) => Field::Z(n, bytes),
@@ -144,7 +144,7 @@ fn push_bytes(
     bytes: &[u8],
 ) -> Result<(), AllocError>
     ensures { OnOk result (map field_told fields.new.items
-        ≡ map field_told fields.old.items ++ spec.bytes_field (field_with field) bytes.now) }
+        ≡ map field_told fields.old.items ++ spec.bytes_field (with_bytes field) bytes.now) }
 {
     if !are_zero(bytes) {
         fields.push(field.with(Vec::from_slice(alloc, bytes)?))?;

@@ -170,7 +170,8 @@ impl State {
     ) -> Result<(), Memory>
         requires modes { IsFor vl svl modes self.old }
         requires fits { fits vl svl modes (field_told field.now) ≡ true }
-        ensures state { OnOk result (core_in self.new ≡ with_field (core_in self.old) (field_told field.now)) }
+        ensures state { OnOk result (core_in self.new
+            ≡ with_field (core_in self.old) (field_told field.now)) }
         ensures modes { IsFor vl svl modes self.new }
     {
         match field {

@@ -13,5 +13,6 @@ pub returns : goal.returns
 unfolding answer
 returns c =
     c.line_of.ensures (effect_of (vector_bytes c.args.vl) _)
-    (subst (λ s. HasOutcome (effect_of (vector_bytes c.args.vl) s) (core_in c.execute.new.state) c.in_ok-outcome.outcome) c.in_ok-state.ensures.state
+    (subst (λ s. HasOutcome (effect_of (vector_bytes c.args.vl) s)
+    (core_in c.execute.new.state) c.in_ok-outcome.outcome) c.in_ok-state.ensures.state
     c.in_ok-outcome.ensures)

@@ -35,5 +35,6 @@ returns-in_err-field c =
 pub returns : goal.returns
 returns c =
     sym c.words.invariant
-    ∙ ap (λ ws. ahead (map field_told c.words.fields.items) (fields_in c.args.vl c.args.svl c.words.modes c.words.least ws)) c.in_default.ensures
+    ∙ ap (λ ws. ahead (map field_told c.words.fields.items)
+    (fields_in c.args.vl c.args.svl c.words.modes c.words.least ws)) c.in_default.ensures
     ∙ fields_end c.args.vl c.args.svl c.words.modes c.words.least (map field_told c.words.fields.items)

@@ -12,7 +12,8 @@ use Rattle.vector_runner.proofs.read.read_lines.Goals as goal
 pub loop-number-init : goal.loop-number-init
 loop-number-init c = (
   c.requires,
-  ap (λ items. behind (map vector_told items) (lines_said c.args.vl c.args.svl (left_of c.args.lines.now).line (left_of c.args.lines.now).lines))
+  ap (λ items. behind (map vector_told items)
+      (lines_said c.args.vl c.args.svl (left_of c.args.lines.now).line (left_of c.args.lines.now).lines))
       c.new-vectors.ensures.items
       ∙ ap (λ n. behind [] (lines_said c.args.vl c.args.svl n (left_of c.args.lines.now).lines)) c.requires
       ∙ behind_none (lines_said c.args.vl c.args.svl 0 (left_of c.args.lines.now).lines),
@@ -27,7 +28,8 @@ loop-number-preserved c =
     let items = ap (map vector_told) made ∙ map-append vector_told c.loop-number.vectors.items (v ∷ []) in
     let after = left_of c.pass.new.self in
     let more = line_more c.args.vl c.args.svl before (left_of c.loop-number.lines) c.line.result.now c.loop-number.number _ c.line.ensures
-    (c.at_end.ensures.some c.if-at_end.false) c.loop-number.invariant.0 c.loop-number-test.true c.loop-number.invariant.1 after (vector_told v)
+    (c.at_end.ensures.some c.if-at_end.false) c.loop-number.invariant.0 c.loop-number-test.true c.loop-number.invariant.1 after
+    (vector_told v)
     c.pass.ensures.past c.in_ok-vector.ensures in
     (more.0, ap (λ l. behind l (lines_said c.args.vl c.args.svl after.line after.lines)) items ∙ more.1)
 

@@ -13,12 +13,13 @@ row n it = bytes_field (P n) it
 
 pub loop-n-preserved : goal.loop-n-preserved
 loop-n-preserved c =
-    let xs = map predicate_bytes c.args.vectors.now.registers.predicates in
+    let ps = c.args.vectors.now.registers.predicates in
+    let xs = map predicate_bytes ps in
     let n = c.loop-n.n in
     let before = map field_told c.loop-n.fields.items in
-    let inside : n < length xs = omega (arith, c.length-length.ensures.registers.predicate_count, length-map c.args.vectors.now.registers.predicates predicate_bytes) in
-    let ps = c.args.vectors.now.registers.predicates in
-    let there : n < length ps = omega (arith, c.length-length.ensures.registers.predicate_count) in
+    let count = c.length-length.ensures.registers.predicate_count in
+    let inside : n < length xs = omega (arith, count, length-map ps predicate_bytes) in
+    let there : n < length ps = omega (arith, count) in
     let bytes : c.p-bytes.result.now ≡ get_or xs n [] =
     sym (get_or-map predicate_bytes ps n [] [] there ∙ ap predicate_bytes (sym c.p-bytes.ensures.value) ∙ c.truths_tell_bytes.ensures) in
     let added = c.in_ok-push_bytes.ensures ∙ ap (λ b. before ++ bytes_field (P n) b) bytes in
@@ -27,6 +28,8 @@ loop-n-preserved c =
 
 pub returns : goal.returns
 returns c =
-    let xs = map predicate_bytes c.args.vectors.now.registers.predicates in
-    let past : length xs ≤ c.loop-n.n = omega (arith, c.length-length.ensures.registers.predicate_count, length-map c.args.vectors.now.registers.predicates predicate_bytes) in
+    let ps = c.args.vectors.now.registers.predicates in
+    let xs = map predicate_bytes ps in
+    let count = c.length-length.ensures.registers.predicate_count in
+    let past : length xs ≤ c.loop-n.n = omega (arith, count, length-map ps predicate_bytes) in
     numbered_end row xs c.loop-n.n (map field_told c.loop-n.fields.items) _ past c.loop-n.invariant

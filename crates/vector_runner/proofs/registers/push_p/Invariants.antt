@@ -7,5 +7,7 @@ use Rattle.vector_runner.proofs.registers.push_p.Given as goal
 
 abbrev pub invariant-loop-n : goal.invariant-loop-n
 invariant-loop-n l =
-    map field_told l.fields.items ++ numbered_fields (λ n it. bytes_field (P n) it) l.n (drop l.n (map predicate_bytes l.vectors.registers.predicates))
-    ≡ map field_told l.initial.fields.items ++ numbered_fields (λ n it. bytes_field (P n) it) 0 (map predicate_bytes l.vectors.registers.predicates)
+    map field_told l.fields.items ++ numbered_fields (λ n it. bytes_field (P n) it) l.n
+    (drop l.n (map predicate_bytes l.vectors.registers.predicates))
+    ≡ map field_told l.initial.fields.items ++ numbered_fields (λ n it. bytes_field (P n) it) 0
+    (map predicate_bytes l.vectors.registers.predicates)
