@@ -53,6 +53,9 @@ LOOPS = {
     "ld1w, 10 others, st1w, 128 bits": Loop(vector_source(TWELVE), (2_500, 16_500), ("--vl", 128)),
     "8 smopa of bytes, subs, b.ne, 2048 bits": Loop(matrix_source(MATRIX_LOOPS["8 smopa of bytes"], 200), (500, 1_500), ("--svl", 2048)),
     "subs, b.ne, replay": Loop(elf(GROWN), (2_503, 12_503), command="replay"),
+    "subs, b.ne, abi-check": Loop(elf(GROWN), (2_503, 12_503), command="abi-check"),
+    "subs, b.ne, ckpt before the end": Loop(elf(GROWN), (2_503, 12_503), command="ckpt"),
+    "subs, b.ne, debug goes before the end": Loop(elf(GROWN), (2_503, 12_503), command="debug"),
 }
 
 
@@ -70,6 +73,13 @@ def said(program, *words):
     return subprocess.run([program, *map(str, words)], check=True, stdout=subprocess.PIPE).stdout
 
 
+def last_word(command, budget, script):
+    """The last word of a command over a report, where it has one: the count before the end, or a script that goes there."""
+    if command == "debug":
+        script.write_text(f"goto {budget - 1}\n")
+    return {"ckpt": (budget - 1,), "debug": (script,)}.get(command, ())
+
+
 def figure(program, name):
     """How many instructions of the processor a program needs for one of a loop."""
     loop, counts = LOOPS[name], []
@@ -82,9 +92,9 @@ def figure(program, name):
         path.write_bytes(code)
         for budget in loop.budgets:
             words = ("run", path, *loop.options, "--budget", budget)
-            if loop.command == "replay":
+            if loop.command != "run":
                 report.write_bytes(said(program, *words))
-                words = ("replay", path, report, 0)
+                words = (loop.command, path, report, 0, *last_word(loop.command, budget, source))
             counts.append(count(program, *words))
     return (counts[1] - counts[0]) / (loop.budgets[1] - loop.budgets[0])
 
