@@ -61,7 +61,7 @@ LOOPS = {
 
 def count(*words):
     """The processor's instructions from the start of a command to its end."""
-    done = subprocess.run([*VALGRIND, *map(str, words)], stdin=subprocess.DEVNULL, capture_output=True, text=True)
+    done = subprocess.run([*VALGRIND, *map(str, words)], stdin=subprocess.DEVNULL, capture_output=True, text=True, errors="replace")
     counted = re.search(r"Collected : (\d+)", done.stderr)
     if done.returncode or not counted:
         raise ValueError(f"{' '.join(map(str, words))} ended with status {done.returncode}: {(done.stderr or done.stdout)[-300:]}")
