@@ -1,9 +1,10 @@
 -- The rest of the run of a thread of a report, from a checkpoint, from what its parts say.
-use Rattle.std.proofs.Common.{◌≡◌, inl, inr, ℕ, ◌<◌, Bool, true, false, cond, List, [], ◌∷◌, drop, refl, sym, ◌∙◌, ap, subst, arith, Option, Some, None}
+use Rattle.std.proofs.Common.{◌≡◌, inl, inr, ℕ, ◌-◌, ◌<◌, Bool, true, false, cond, List, [], ◌∷◌, drop, length, take, refl, sym, ◌∙◌, ap, subst, arith, Option, Some, None}
 use Rattle.std.proofs.Common.{Result, Ok, Err}
 use Rattle.std.specs.Prelude.{nat_lt}
 use Rattle.std.specs.Str.{bytes_eq}
 use Rattle.std.proofs.lemmas.Bool.Decides.{nat_tests}
+use Rattle.std.proofs.lemmas.Grind.{common_steps}
 use Rattle.sha2.specs.Sha256.{sha256}
 use Rattle.cmd_words.specs.Command.{asking}
 use Rattle.cmd_words.specs.Options.{default_options}
@@ -70,6 +71,13 @@ resume_unmatched file bytes checkpoint thread program it (refusal.Ended (ending.
 resume_unmatched file bytes checkpoint thread program it r loads reads below h = absurd h
 
 -- ---- the rest of the run
+
+-- what is left of a journal after some of its events
+pub rest_left : (events journal : List Event) (n used : ℕ) → events ≡ journal → n ≡ used
+    → take (length events - n) (drop n events) ≡ drop used journal
+rest_left events journal n used same is =
+    let whole : take (length events - n) (drop n events) ≡ drop n events = grind (arith, common_steps) in
+    whole ∙ (λ i. drop (is i) (same i))
 
 module _ (file bytes checkpoint : List ℕ) (it : Report) (config : Config) (loose : Loose) (h : IsStateFor it config checkpoint loose)
     (at : IsBlockIn file bytes (loose_thread loose)) (said : at.said ≡ it) (given : at.config ≡ config)

@@ -16,8 +16,8 @@ returns-in_err-check_match c =
     c.in_err-check_match.ensures.err in
     search rules
 
-pub returns-then : goal.returns-then
-returns-then c = record {
+pub returns-then-count-block : goal.returns-then-count-block
+returns-then-count-block c = record {
   at =
       block_there c.args.file.now c.args.report.now.bytes.items c.args.thread c.args.image.now c.args.report.now.content
       c.index-block.result.now c.requires.loads c.requires.reads c.in_ok-check_match.ensures.ok c.requires.cores c.index-block.ensures;
