@@ -1,7 +1,7 @@
 -- The rest of the run of a thread of a report, from a checkpoint, from what its parts say.
 use Rattle.std.proofs.Common.{◌≡◌, inl, inr, ℕ, ◌-◌, ◌<◌, Bool, true, false, cond, List, [], ◌∷◌, drop, length, take, refl, sym, ◌∙◌, ap, subst, arith, Option, Some, None}
 use Rattle.std.proofs.Common.{Result, Ok, Err}
-use Rattle.std.specs.Prelude.{nat_lt}
+use Rattle.std.specs.Prelude.{nat_lt, IsErrAnd}
 use Rattle.std.specs.Str.{bytes_eq}
 use Rattle.std.proofs.lemmas.Bool.Decides.{nat_tests}
 use Rattle.std.proofs.lemmas.Grind.{common_steps}
@@ -144,6 +144,12 @@ module _ (file bytes checkpoint : List ℕ) (it : Report) (config : Config) (loo
         resumed_ends (refusal.Ended (ending.Differs (difference.Parts fault))) k = absurd k.2
         resumed_ends refusal.Memory k = tt
         resumed_ends r k = absurd k
+
+-- a result with which a `?` leaves ends as its refusal does
+pub refused_ends : (file bytes checkpoint : List ℕ) (end : Result Answer Refusal) (r : Refusal) → IsErrAnd end (λ left. left ≡ r)
+    → EndsResume file bytes checkpoint (Err r) → EndsResume file bytes checkpoint end
+refused_ends file bytes checkpoint (Ok a) r is ends = absurd is
+refused_ends file bytes checkpoint (Err left) r is ends = subst (λ (x : Refusal). EndsResume file bytes checkpoint (Err x)) (sym is) ends
 
 -- for its request
 pub resume_accepted : (program report name : List ℕ) (file bytes checkpoint : List ℕ) (end : Result Answer Refusal)

@@ -5,7 +5,7 @@ use Rattle.smemu.specs.Replay.{text_in}
 use Rattle.smemu.specs.Views.{ended_text, ComparesSo, EndsResume}
 use Rattle.smemu.proofs.Debugs.{block_there}
 use Rattle.smemu.proofs.Replays.{report_size}
-use Rattle.smemu.proofs.Resumes.{resume_unmatched, rest_parted, resumed_ends, resumed_same}
+use Rattle.smemu.proofs.Resumes.{refused_ends, resume_unmatched, rest_parted, resumed_ends, resumed_same}
 use Rattle.smemu.proofs.resume.resume_report.Goals as goal
 
 pub returns-in_err-check_match : goal.returns-in_err-check_match
@@ -17,7 +17,7 @@ returns-in_err-check_match c =
     resume_unmatched file bytes checkpoint (loose_thread c.args.checkpoint.content) c.args.file.now.content
     (report_said c.args.report.content) c.in_err-check_match.field-0.0 c.requires.loads c.requires.reads c.requires.state.thread
     (rw (c.as_slice.ensures.value, c.thread-thread.ensures) at c.in_err-check_match.ensures.err) in
-    let r = c.from_residual.ensures in ?
+    refused_ends file bytes checkpoint c.from_residual.result c.in_err-check_match.field-0.0 c.from_residual.ensures.1 ends
 
 pub resume_block-requires : goal.resume_block-requires
 resume_block-requires c =
@@ -43,7 +43,7 @@ returns-in_err-end c =
     let ends : EndsResume file bytes checkpoint (Err c.in_err-end.field-0.0) =
     rest_parted file bytes checkpoint (report_said c.args.report.content) c.args.report.content.config loose c.requires.state at refl refl
     c.in_err-end.field-0.0 c.in_err-end.ensures.parted in
-    search (rules, c.from_residual-in_err-end.ensures)
+    refused_ends file bytes checkpoint c.from_residual-in_err-end.result c.in_err-end.field-0.0 c.from_residual-in_err-end.ensures.1 ends
 
 pub compare_end-requires-clause-size : goal.compare_end-requires-clause-size
 compare_end-requires-clause-size c =
@@ -66,7 +66,8 @@ returns-in_err-compare_end c =
     (subst (λ (b : List ℕ). ComparesSo (text_in b (block_said c.index-block.result.now)) c.index-block.result.now.first_line
     (ended_text c.in_ok-end.end c.in_ok-end.stop c.index-block.result.now.journal.items) (Err c.in_err-compare_end.field-0.0))
     c.as_slice-2.ensures.value c.in_err-compare_end.ensures) in
-    let r = c.from_residual-in_err-compare_end.ensures in ?
+    refused_ends file bytes checkpoint c.from_residual-in_err-compare_end.result c.in_err-compare_end.field-0.0
+    c.from_residual-in_err-compare_end.ensures.1 ends
 
 pub returns : goal.returns
 returns c =
