@@ -1,9 +1,17 @@
-use Rattle.std.proofs.Common.{rules, List, subst, ◌∙◌, Err}
+use Rattle.std.proofs.Common.{◌≡◌, List, subst, sym, ◌∙◌, Result, Ok, Err}
+use Rattle.std.specs.Prelude.{IsErrAnd}
 use Rattle.script_reader.specs.declared.command.DebugCommand.{DebugCommand}
 use Rattle.sme_debugger.specs.Session.{recording_of, place_of}
+use Rattle.sme_debugger.specs.declared.fault.DebugFault.{DebugFault}
 use Rattle.smemu.specs.Debug.{AnswersEach, Leads}
 use Rattle.smemu.proofs.Debugs.{answered_more, answered_until, take_all}
 use Rattle.smemu.proofs.debug.answer_each.Goals as goal
+
+-- a fault that is passed on
+passed_on : (r : Result Unit DebugFault) (fault : DebugFault) (P : Result Unit DebugFault → Type 0) → IsErrAnd r (λ f. f ≡ fault)
+    → P (Err fault) → P r
+passed_on (Ok x) fault P is h = absurd is
+passed_on (Err f) fault P is h = subst (λ (g : DebugFault). P (Err g)) (sym is) h
 
 pub returns-in_err-run_command : goal.returns-in_err-run_command
 returns-in_err-run_command g c =
@@ -14,7 +22,9 @@ returns-in_err-run_command g c =
     c.loop-command.command-index _ (place_of now) (g.K.Sink.view c.args.out.now) (g.K.Sink.view c.loop-command.out)
     (g.K.Sink.view c.run_command.new.out) c.loop-command-test.true c.loop-command.invariant.0 c.loop-command.invariant.1
     c.in_err-run_command.field-0.0 c.in_err-run_command.ensures.put c.in_err-run_command.ensures.memory in
-    search rules
+    passed_on c.from_residual.result c.in_err-run_command.field-0.0
+    (AnswersEach (recording_of c.args.session.now) (place_of c.args.session.now) c.args.commands.now (g.K.Sink.view c.args.out.now)
+    (g.K.Sink.view c.run_command.new.out)) c.from_residual.ensures.1 until
 
 pub loop-command-preserved : goal.loop-command-preserved
 loop-command-preserved g c =
