@@ -24,7 +24,7 @@ BYTES = b"019 x-\n\r\t\0\xff\xc3"
 NUMBERS = [b"0", b"1", b"00", b"01", b"7", b"8", b"63", b"64", b"255", b"256", b"4096", b"4097", b"65535", b"4294967295", b"4294967296", b"18446744073709551615",
            b"18446744073709551616", b"99999999999999999999999", b"-1", b"+1", b"1.0", b"0x1", b""]
 ADDRESSES = [b"0x0", b"0xffffffffffffffff", b"0x10000000000000000", b"0X0", b"0x", b"0x7dffffffffff", b"0x7e0000000000", b"0x7f0000000000", b"0x7fffffffffff", b"00x1"]
-REPEATED = re.compile(rb"(.)\1{16,}", re.DOTALL)
+REPEATED = re.compile(rb"(.)\1{31,}", re.DOTALL)
 
 
 class Unknown(Exception):
