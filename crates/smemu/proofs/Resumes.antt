@@ -1,5 +1,5 @@
 -- The rest of the run of a thread of a report, from a checkpoint, from what its parts say.
-use Rattle.std.proofs.Common.{◌≡◌, inl, inr, ℕ, ◌-◌, ◌<◌, Bool, true, false, cond, List, [], ◌∷◌, drop, length, take, refl, sym, ◌∙◌, ap, subst, arith, Option, Some, None}
+use Rattle.std.proofs.Common.{◌≡◌, inl, inr, ℕ, ◌-◌, ◌<◌, Bool, true, false, cond, List, [], ◌∷◌, drop, get_or, length, take, refl, sym, ◌∙◌, ap, subst, arith, Option, Some, None}
 use Rattle.std.proofs.Common.{Result, Ok, Err}
 use Rattle.std.specs.Prelude.{nat_lt, IsErrAnd}
 use Rattle.std.specs.Str.{bytes_eq}
@@ -15,30 +15,31 @@ use Rattle.sm_types.specs.declared.config.Config.{Config}
 use Rattle.sm_types.specs.declared.shared_op.Event.{Event}
 use Rattle.sm_types.specs.declared.stop.Stop.{Stop}
 use Rattle.elf_loader.specs.Loading.{Loads}
-use Rattle.kernel_contexts.specs.Loose.{loose_config, loose_events, loose_state, loose_thread, IsSameLoose}
-use Rattle.kernel_contexts.specs.State.{State}
+use Rattle.kernel_contexts.specs.Loose.{loose_events, loose_state, loose_thread, IsSameLoose}
 use Rattle.kernel_contexts.specs.declared.loose.Loose.{Loose}
-use Rattle.ckpt_file.specs.Checkpoint.{ReadsCheckpoint}
 use Rattle.lone_runner.specs.Rest.{IsPartingFrom, IsRestOfRun}
 use Rattle.lone_runner.specs.Resumed.{IsResumed}
 use Rattle.paged_memory.specs.Image.{Program}
 use Rattle.line_reader.specs.Difference.{first_difference}
 use Rattle.line_reader.specs.Lines.{lines_of}
-use Rattle.report_reader.specs.Block.{Block}
 use Rattle.report_reader.specs.Reading.{Fault}
 use Rattle.report_reader.specs.Report.{Report, report_in}
+use Rattle.report_reader.specs.Told.{block_said, report_said}
+use Rattle.report_reader.specs.declared.parts.Report as parts
+use Rattle.report_reader.specs.declared.parts.ReportBlock.{ReportBlock}
 use Rattle.report_reader.specs.declared.fault.ReportKind.TheVariants.{Image, NoThread}
 use Rattle.report_text.specs.Block.{block_text}
 use Rattle.command_lines.specs.ReportLines.{difference_lines, report_line}
-use Rattle.smemu.specs.Replay.{text_in, IsBlockIn}
-use Rattle.smemu.specs.Resume.{rest_of, rest_text, IsRestIn, IsResumeOf, RestEnds}
-use Rattle.smemu.specs.Views.{ended_text, rest_in, ComparesSo, EndsAccepted, EndsResume, IsRestRefusal, IsStateFor, IsUnmatched}
+use Rattle.smemu.specs.Replay.{mismatch, text_in, IsBlockIn}
+use Rattle.smemu.specs.Resume.{rest_text, IsRestIn, IsResumeOf, RestEnds}
+use Rattle.smemu.specs.Views.{ended_text, rest_in, ComparesSo, EndsAccepted, EndsResume, IsInBlock, IsRestRefusal, IsStateFor, IsUnmatched}
 use Rattle.smemu.specs.declared.answer.Answer.{Answer}
 use Rattle.smemu.specs.declared.answer.Answer.TheVariants as answer
 use Rattle.smemu.specs.declared.ending.Difference.TheVariants as difference
 use Rattle.smemu.specs.declared.ending.Ending.TheVariants as ending
 use Rattle.smemu.specs.declared.refusal.Refusal.{Refusal}
 use Rattle.smemu.specs.declared.refusal.Refusal.TheVariants as refusal
+use Rattle.smemu.proofs.Debugs.{block_there}
 
 -- ---- a report of another program
 
@@ -79,20 +80,19 @@ rest_left events journal n used same is =
     let whole : take (length events - n) (drop n events) ≡ drop n events = grind (arith, common_steps) in
     whole ∙ (λ i. drop (is i) (same i))
 
-module _ (file bytes checkpoint : List ℕ) (it : Report) (config : Config) (loose : Loose) (h : IsStateFor it config checkpoint loose)
-    (at : IsBlockIn file bytes (loose_thread loose)) (said : at.said ≡ it) (given : at.config ≡ config)
+module _ (file bytes checkpoint : List ℕ) (program : Program) (it : parts.Report) (block : ReportBlock) (loose : Loose)
+    (h : IsStateFor (report_said it) it.config checkpoint loose) (loads : Loads file program) (reads : report_in bytes ≡ Ok (report_said it))
+    (matches : mismatch (sha256 file) (loose_thread loose) (report_said it) ≡ None) (one_core : it.config.cores ≡ 1)
+    (is : block ≡ get_or it.blocks.items (loose_thread loose) block)
   where
-    abbrev rest : IsRestIn file bytes checkpoint
-    rest = record {
-      thread = loose_thread loose;
-      at = at;
-      from = loose_state loose;
-      used = loose_events loose;
-      reads = subst (λ (r : Report). ReadsCheckpoint checkpoint r (loose_state loose) (loose_thread loose) (loose_events loose)) (sym said) h.reads;
-    }
+    abbrev at : IsBlockIn file bytes (loose_thread loose)
+    at = block_there file bytes (loose_thread loose) program it block loads reads matches one_core is
 
-    options : loose_config loose ≡ at.config
-    options = h.options ∙ sym given
+    abbrev rest : IsRestIn file bytes checkpoint
+    rest = record { thread = loose_thread loose; at = at; from = loose_state loose; used = loose_events loose; reads = h.reads }
+
+    pub stands_within : IsInBlock (block_said block) loose
+    stands_within = h.block (block_said block) at.stands
 
     -- the thread parts from what is left
     pub rest_parted : (r : Refusal) → IsRestRefusal at.block loose r → EndsResume file bytes checkpoint (Err r)
@@ -102,7 +102,7 @@ module _ (file bytes checkpoint : List ℕ) (it : Report) (config : Config) (loo
           fault = fault;
           parts =
               subst (λ (c : Config). IsPartingFrom c (loose_thread loose) (loose_state loose) (loose_events loose) (rest_in at.block loose)
-              at.block.count fault) options k;
+              at.block.count fault) h.options k;
           is_text = refl;
         })
     rest_parted refusal.Memory k = tt
@@ -117,17 +117,17 @@ module _ (file bytes checkpoint : List ℕ) (it : Report) (config : Config) (loo
           stop = stop;
           run =
               subst (λ (c : Config). IsRestOfRun c (loose_thread loose) (loose_state loose) (loose_events loose) (rest_in at.block loose)
-              (loose_state end) stop) options run.run;
+              (loose_state end) stop) h.options run.run;
           counts = run.counts;
         }
 
         its_text : ended_text end stop at.block.journal ≡ rest_text rest ended
         its_text =
-            λ i. block_text (version_of ((same.config ∙ options) i)) (same.thread i) (loose_state end) (Some stop) at.block.journal
+            λ i. block_text (version_of ((same.config ∙ h.options) i)) (same.thread i) (loose_state end) (Some stop) at.block.journal
 
         pub resumed_same : text_in bytes at.block ≡ ended_text end stop at.block.journal
             → IsResumeOf file bytes checkpoint (text_in bytes at.block)
-        resumed_same is = record { rest = rest; end = ended; is_text = is ∙ its_text; same = refl }
+        resumed_same alike = record { rest = rest; end = ended; is_text = alike ∙ its_text; same = refl }
 
         -- and its block is another
         pub resumed_ends : (r : Refusal)

@@ -14,7 +14,6 @@ use Rattle.kernel_contexts.specs.Loose.{loose_config, loose_events, loose_state,
 use Rattle.kernel_contexts.specs.declared.loose.Loose.{Loose}
 use Rattle.lone_runner.specs.Parting.{EndsAt, IsParting, IsPartingBefore}
 use Rattle.lone_runner.specs.Rest.{IsPartingFrom}
-use Rattle.lone_runner.specs.declared.fault.AloneFault.{AloneFault}
 use Rattle.paged_memory.specs.Image.{Program}
 use Rattle.report_reader.specs.Block.{Block}
 use Rattle.line_reader.specs.Difference.{first_difference}

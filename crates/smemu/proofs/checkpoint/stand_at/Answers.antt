@@ -1,4 +1,4 @@
-use Rattle.std.proofs.Common.{rules, inr, refl, Err}
+use Rattle.std.proofs.Common.{rules, inr, refl}
 use Rattle.report_reader.specs.Told.{block_said}
 use Rattle.smemu.specs.Views.{IsShortRefusal}
 use Rattle.smemu.proofs.Checkpoints.{before_short, stands_so, stops_so}

@@ -1,49 +1,36 @@
-use Rattle.std.proofs.Common.{rules, ℕ, List, refl, subst, Err}
+use Rattle.std.proofs.Common.{ℕ, List, subst, Err}
 use Rattle.kernel_contexts.specs.Loose.{loose_thread}
 use Rattle.report_reader.specs.Told.{block_said, report_said}
 use Rattle.smemu.specs.Replay.{text_in}
-use Rattle.smemu.specs.Views.{ended_text, ComparesSo, EndsResume}
-use Rattle.smemu.proofs.Debugs.{block_there}
+use Rattle.smemu.specs.Views.{ended_text, ComparesSo}
 use Rattle.smemu.proofs.Replays.{report_size}
-use Rattle.smemu.proofs.Resumes.{refused_ends, resume_unmatched, rest_parted, resumed_ends, resumed_same}
+use Rattle.smemu.proofs.Resumes.{refused_ends, resume_unmatched, rest_parted, resumed_ends, resumed_same, stands_within}
 use Rattle.smemu.proofs.resume.resume_report.Goals as goal
 
 pub returns-in_err-check_match : goal.returns-in_err-check_match
 returns-in_err-check_match c =
-    let file = c.args.file.now.bytes.items in
-    let bytes = c.args.report.bytes.items in
-    let checkpoint = c.args.checkpoint.bytes.items in
-    let ends : EndsResume file bytes checkpoint (Err c.in_err-check_match.field-0.0) =
-    resume_unmatched file bytes checkpoint (loose_thread c.args.checkpoint.content) c.args.file.now.content
-    (report_said c.args.report.content) c.in_err-check_match.field-0.0 c.requires.loads c.requires.reads c.requires.state.thread
-    (rw (c.as_slice.ensures.value, c.thread-thread.ensures) at c.in_err-check_match.ensures.err) in
-    refused_ends file bytes checkpoint c.from_residual.result c.in_err-check_match.field-0.0 c.from_residual.ensures.1 ends
+    refused_ends c.args.file.now.bytes.items c.args.report.bytes.items c.args.checkpoint.bytes.items c.from_residual.result
+    c.in_err-check_match.field-0.0 c.from_residual.ensures.1
+    (resume_unmatched c.args.file.now.bytes.items c.args.report.bytes.items c.args.checkpoint.bytes.items
+    (loose_thread c.args.checkpoint.content) c.args.file.now.content (report_said c.args.report.content) c.in_err-check_match.field-0.0
+    c.requires.loads c.requires.reads c.requires.state.thread
+    (rw (c.as_slice.ensures.value, c.thread-thread.ensures) at c.in_err-check_match.ensures.err))
 
 pub resume_block-requires : goal.resume_block-requires
 resume_block-requires c =
-    let loose = c.args.checkpoint.content in
-    let at =
-    block_there c.args.file.now.bytes.items c.args.report.bytes.items (loose_thread loose) c.args.file.now.content c.args.report.content
-    c.index-block.result.now c.requires.loads c.requires.reads
+    stands_within c.args.file.now.bytes.items c.args.report.bytes.items c.args.checkpoint.bytes.items c.args.file.now.content
+    c.args.report.content c.index-block.result.now c.args.checkpoint.content c.requires.state c.requires.loads c.requires.reads
     (rw (c.as_slice.ensures.value, c.thread-thread.ensures) at c.in_ok-check_match.ensures.ok) c.requires.cores
-    (rw c.thread-thread.ensures at c.index-block.ensures) in
-    c.requires.state.block (block_said c.index-block.result.now) at.stands
+    (rw c.thread-thread.ensures at c.index-block.ensures)
 
 pub returns-in_err-end : goal.returns-in_err-end
 returns-in_err-end c =
-    let loose = c.args.checkpoint.content in
-    let file = c.args.file.now.bytes.items in
-    let bytes = c.args.report.bytes.items in
-    let checkpoint = c.args.checkpoint.bytes.items in
-    let at =
-    block_there file bytes (loose_thread loose) c.args.file.now.content c.args.report.content
-    c.index-block.result.now c.requires.loads c.requires.reads
+    refused_ends c.args.file.now.bytes.items c.args.report.bytes.items c.args.checkpoint.bytes.items c.from_residual-in_err-end.result
+    c.in_err-end.field-0.0 c.from_residual-in_err-end.ensures.1
+    (rest_parted c.args.file.now.bytes.items c.args.report.bytes.items c.args.checkpoint.bytes.items c.args.file.now.content
+    c.args.report.content c.index-block.result.now c.args.checkpoint.content c.requires.state c.requires.loads c.requires.reads
     (rw (c.as_slice.ensures.value, c.thread-thread.ensures) at c.in_ok-check_match.ensures.ok) c.requires.cores
-    (rw c.thread-thread.ensures at c.index-block.ensures) in
-    let ends : EndsResume file bytes checkpoint (Err c.in_err-end.field-0.0) =
-    rest_parted file bytes checkpoint (report_said c.args.report.content) c.args.report.content.config loose c.requires.state at refl refl
-    c.in_err-end.field-0.0 c.in_err-end.ensures.parted in
-    refused_ends file bytes checkpoint c.from_residual-in_err-end.result c.in_err-end.field-0.0 c.from_residual-in_err-end.ensures.1 ends
+    (rw c.thread-thread.ensures at c.index-block.ensures) c.in_err-end.field-0.0 c.in_err-end.ensures.parted)
 
 pub compare_end-requires-clause-size : goal.compare_end-requires-clause-size
 compare_end-requires-clause-size c =
@@ -51,34 +38,21 @@ compare_end-requires-clause-size c =
 
 pub returns-in_err-compare_end : goal.returns-in_err-compare_end
 returns-in_err-compare_end c =
-    let loose = c.args.checkpoint.content in
-    let file = c.args.file.now.bytes.items in
-    let bytes = c.args.report.bytes.items in
-    let checkpoint = c.args.checkpoint.bytes.items in
-    let at =
-    block_there file bytes (loose_thread loose) c.args.file.now.content c.args.report.content
-    c.index-block.result.now c.requires.loads c.requires.reads
+    refused_ends c.args.file.now.bytes.items c.args.report.bytes.items c.args.checkpoint.bytes.items
+    c.from_residual-in_err-compare_end.result c.in_err-compare_end.field-0.0 c.from_residual-in_err-compare_end.ensures.1
+    (resumed_ends c.args.file.now.bytes.items c.args.report.bytes.items c.args.checkpoint.bytes.items c.args.file.now.content
+    c.args.report.content c.index-block.result.now c.args.checkpoint.content c.requires.state c.requires.loads c.requires.reads
     (rw (c.as_slice.ensures.value, c.thread-thread.ensures) at c.in_ok-check_match.ensures.ok) c.requires.cores
-    (rw c.thread-thread.ensures at c.index-block.ensures) in
-    let ends : EndsResume file bytes checkpoint (Err c.in_err-compare_end.field-0.0) =
-    resumed_ends file bytes checkpoint (report_said c.args.report.content) c.args.report.content.config loose c.requires.state at refl refl
-    c.in_ok-end.end c.in_ok-end.stop c.in_ok-end.ensures.run c.in_ok-end.ensures.same c.in_err-compare_end.field-0.0
+    (rw c.thread-thread.ensures at c.index-block.ensures) c.in_ok-end.end c.in_ok-end.stop c.in_ok-end.ensures.run
+    c.in_ok-end.ensures.same c.in_err-compare_end.field-0.0
     (subst (λ (b : List ℕ). ComparesSo (text_in b (block_said c.index-block.result.now)) c.index-block.result.now.first_line
     (ended_text c.in_ok-end.end c.in_ok-end.stop c.index-block.result.now.journal.items) (Err c.in_err-compare_end.field-0.0))
-    c.as_slice-2.ensures.value c.in_err-compare_end.ensures) in
-    refused_ends file bytes checkpoint c.from_residual-in_err-compare_end.result c.in_err-compare_end.field-0.0
-    c.from_residual-in_err-compare_end.ensures.1 ends
+    c.as_slice-2.ensures.value c.in_err-compare_end.ensures))
 
 pub returns : goal.returns
 returns c =
-    let loose = c.args.checkpoint.content in
-    let file = c.args.file.now.bytes.items in
-    let bytes = c.args.report.bytes.items in
-    let at =
-    block_there file bytes (loose_thread loose) c.args.file.now.content c.args.report.content
-    c.index-block.result.now c.requires.loads c.requires.reads
+    resumed_same c.args.file.now.bytes.items c.args.report.bytes.items c.args.checkpoint.bytes.items c.args.file.now.content
+    c.args.report.content c.index-block.result.now c.args.checkpoint.content c.requires.state c.requires.loads c.requires.reads
     (rw (c.as_slice.ensures.value, c.thread-thread.ensures) at c.in_ok-check_match.ensures.ok) c.requires.cores
-    (rw c.thread-thread.ensures at c.index-block.ensures) in
-    resumed_same file bytes c.args.checkpoint.bytes.items (report_said c.args.report.content) c.args.report.content.config loose
-    c.requires.state at refl refl c.in_ok-end.end c.in_ok-end.stop c.in_ok-end.ensures.run c.in_ok-end.ensures.same
-    (rw c.as_slice-2.ensures.value at c.in_ok-compare_end.ensures)
+    (rw c.thread-thread.ensures at c.index-block.ensures) c.in_ok-end.end c.in_ok-end.stop c.in_ok-end.ensures.run
+    c.in_ok-end.ensures.same (rw c.as_slice-2.ensures.value at c.in_ok-compare_end.ensures)
