@@ -160,16 +160,16 @@ two_ends : (s t : State) (p q : Stop) (u v : ℕ) (left rest : List Event)
     → ◌≡◌ {A = Reached} (Ended s p u left) (Ended t q v rest) → s ≡ t
 two_ends s t p q u v left rest e = cc
 
+pub within_budget : (program : Program) (config : Config) (thread : ℕ) (journal : List Event) (turns : ℕ) (from : State) (used : ℕ)
+    (left : List Event) → reach program config thread journal turns ≡ At from used left → from.count ≤ config.budget
+unfolding reach start_state
+within_budget program config thread journal turns from used left at =
+    subst (IsWithin config.budget) at (within_from config thread (start_state program config thread) journal turns (omega arith))
+
 module _ (program : Program) (config : Config) (thread : ℕ) (journal : List Event) (turns : ℕ) (from : State) (used : ℕ)
     (left : List Event) (at : reach program config thread journal turns ≡ At from used left) (state : State) (stop : Stop)
     (end : IsLoneRun program config thread journal state stop) (less : from.count < state.count)
   where
-    most : from.count ≤ config.budget
-    unfolding reach start_state
-    most =
-        subst (IsWithin config.budget) at
-        (within_from config thread (start_state program config thread) journal turns (omega arith))
-
     -- the turn at which the budget is used up ends the run
     spent_so : from.count ≡ config.budget → reach program config thread journal (suc turns) ≡ Ended from Budget used left
     spent_so is =
@@ -199,5 +199,6 @@ module _ (program : Program) (config : Config) (thread : ℕ) (journal : List Ev
     not_used_up = elim (compared from.count config.budget) [
       | inl under ↦ under
       | inr (inl same) ↦ absurd (not_spent same)
-      | inr (inr over) ↦ let within = most in absurd (omega (arith, within, over))
+      | inr (inr over) ↦
+          let within = within_budget program config thread journal turns from used left at in absurd (omega (arith, within, over))
     ]

@@ -1,13 +1,13 @@
 -- What is left of a run from a checkpoint that a report reads either parts from the block, or ends as it says.
 use Rattle.std.proofs.Common.{◌≡◌, ℕ, ◌+◌, ◌*◌, ◌/◌, ◌^◌, ◌<◌, ◌≤◌, ◌&&◌, ◌++◌, Bool, true, false, cond, List, [], ◌∷◌, length, map, None, Some, refl, ap, sym, ◌∙◌}
 use Rattle.std.proofs.Common.{subst, arith, length-append}
-use Rattle.std.specs.Prelude.{nat_le, nat_lt, slice_index, if◌then◌else◌}
+use Rattle.std.specs.Prelude.{◌==◌, nat_le, nat_lt, slice_index, if◌then◌else◌}
 use Rattle.std.specs.FinMap.{entries, find, get, get-entries}
 use Rattle.std.specs.Ordering.{eq_by_cmp, nat_cmp}
 use Rattle.std.proofs.lemmas.Bool.Decides.{nat_tests}
 use Rattle.std.proofs.lemmas.List.{length-map}
 use Rattle.bit_ops.specs.Sums.{bool_number}
-use Rattle.byteorder.specs.Endian.{little_bytes}
+use Rattle.byteorder.specs.Endian.{little_bytes, little_number}
 use Rattle.sm_types.specs.declared.numbers.Numbers.{Numbers}
 use Rattle.sm_types.specs.declared.scalars.Scalars.{Scalars}
 use Rattle.sve_vectors.specs.Predicates.{predicate_bytes}
@@ -20,10 +20,11 @@ use Rattle.lone_runner.specs.Rest.{IsPartingFrom}
 use Rattle.lone_runner.specs.declared.fault.AloneFault.{AloneFault}
 use Rattle.lone_runner.proofs.Partings.{rest_ends_unless}
 use Rattle.report_reader.specs.Report.{Report}
+use Rattle.field_table.specs.Rows.{number, said}
 use Rattle.field_table.specs.Table.{IsFilled}
 use Rattle.ckpt_fields.specs.Rows.{array_size, checkpoint_table, counts, from_handlers, from_output, from_registers, from_system, from_thread}
-use Rattle.ckpt_fields.specs.Rows.{from_vectors, is_count, is_signal_past}
-use Rattle.ckpt_fields.specs.Values.{handler_values, output_values, page_values, system_values}
+use Rattle.ckpt_fields.specs.Rows.{first_rows, from_vectors, is_count, is_signal_past, options_rows}
+use Rattle.ckpt_fields.specs.Values.{first_values, handler_values, option_values, output_values, page_values, system_values}
 use Rattle.ckpt_file.specs.Checkpoint.{array_values, checkpoint_values, pages_in, register_values, state_values, vector_values, ReadsCheckpoint}
 use Rattle.ckpt_file.proofs.Filling.{each_of_all, fields_good}
 use Rattle.ckpt_file.proofs.Modes.{and_second}
@@ -40,6 +41,9 @@ is_one last n e = grind (arith, nat_tests)
 
 same_key : (k n : ℕ) → eq_by_cmp nat_cmp k n ≡ true → k ≡ n
 same_key k n e = grind (arith, nat_tests)
+
+same_number : (m n : ℕ) → (m == n) ≡ true → m ≡ n
+same_number m n e = grind (arith, nat_tests)
 
 false_or : (b : Bool) → (b ≡ true → ⊥) → b ≡ false
 false_or true never = absurd (never refl)
@@ -159,13 +163,18 @@ module _ (bytes : List ℕ) (report : Report) (s : State) (thread events : ℕ) 
       let good =
       handlers_good from_output (entries s.handlers) output_left h.widths.few_handlers
       (each_of_all IsNarrowEntry (entries s.handlers) h.widths.handlers) handlers_filled in
-      get-entries s.handlers k ∙ not_found 0 k (entries s.handlers) good.1.0 none
+      get-entries s.handlers k ∙ not_found 0 k (entries s.handlers) good.1 none
 
-  within_budget : s.count ≤ report.options.budget
-  within_budget =
+  pub below_budget : s.count < report.options.budget
+  below_budget =
       let less : nat_lt s.count report.options.budget ≡ true =
       and_second (nat_lt s.count (slice_index (counts report) thread)) (nat_lt s.count report.options.budget) progress.0.count_good in
       grind (arith, nat_tests)
+
+  -- the budget is one of 32 bits, as its field says
+  pub budget_kept : little_number 4 (little_bytes 4 report.options.budget) ≡ report.options.budget
+  unfolding checkpoint_table first_rows options_rows checkpoint_values first_values option_values number said
+  budget_kept = same_number _ _ h.fields.2.2.2.2.2.1
 
 -- ---- the rest of the run
 
@@ -173,6 +182,6 @@ pub rest_ends : (file report checkpoint : List ℕ) (r : IsRestIn file report ch
     → ((fault : AloneFault) → ¬ IsPartingFrom r.at.config r.thread r.from r.used (rest_of r) r.at.block.count fault) → RestEnds r
 rest_ends file report checkpoint r none =
     rest_ends_unless r.at.config r.thread r.from r.used (rest_of r) r.at.block.count
-    (subst (λ (o : Numbers). r.from.count ≤ o.budget) (sym r.at.given)
-    (within_budget checkpoint r.at.said r.from r.thread r.used r.reads))
+    (let below = below_budget checkpoint r.at.said r.from r.thread r.used r.reads in
+    let same : r.at.config.budget ≡ r.at.said.options.budget = ap (λ (o : Numbers). o.budget) r.at.given in omega (arith, below, same))
     (of_signals checkpoint r.at.said r.from r.thread r.used r.reads) none

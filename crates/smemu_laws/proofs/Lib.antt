@@ -6,11 +6,11 @@ pub mod OneCheck
 pub mod OneCheckpoint
 pub mod OneResume
 pub mod Short
+pub mod GoesOn
 pub mod Resumed
 pub mod OneEnding
 pub mod Beginnings
 pub mod Fates
 pub mod Longest
 pub mod Commands
-pub mod GoesOn
 pub mod Names

@@ -1,16 +1,25 @@
 -- From a checkpoint that was written of a thread of a report, the rest of its run is written as its replay is.
-use Rattle.std.proofs.Common.{◌≡◌, ◌⊎◌, inl, inr, ℕ, ◌+◌, ◌<◌, ◌≤◌, List, Some, refl, sym, ◌∙◌, ap, subst, arith}
+use Rattle.std.proofs.Common.{◌≡◌, ◌⊎◌, inl, inr, ℕ, ◌+◌, ◌<◌, ◌≤◌, ◌++◌, List, [], ◌∷◌, length, Some, refl, sym, ◌∙◌, ap, subst, arith}
+use Rattle.std.specs.List.{concat}
 use Rattle.std.specs.Prelude.{◌↔◌, drop}
+use Rattle.std.proofs.lemmas.List.Folds.{concat-append}
+use Rattle.byteorder.specs.Endian.{little_bytes, little_number}
 use Rattle.sm_types.specs.Options.{version_of}
 use Rattle.sm_types.specs.declared.config.Config.{Config}
+use Rattle.sm_types.specs.declared.numbers.Numbers.{Numbers}
+use Rattle.kernel_contexts.specs.State.{State}
 use Rattle.paged_memory.specs.Image.{Program}
 use Rattle.lone_runner.specs.Parting.{IsParting}
 use Rattle.lone_runner.specs.Rest.{EndsFrom, IsPartingFrom}
 use Rattle.lone_runner.specs.declared.fault.AloneFault.{AloneFault}
 use Rattle.run_laws.specs.Rests.{ComesToTheRun}
-use Rattle.run_laws.proofs.Rests.{comes_to_the_run, not_used_up}
-use Rattle.ckpt_file.specs.Checkpoint.{ReadsCheckpoint}
+use Rattle.lone_runner.proofs.Partings.{compared}
+use Rattle.run_laws.proofs.Rests.{comes_to_the_run, not_used_up, within_budget}
+use Rattle.ckpt_fields.specs.Values.{first_values, thread_values}
+use Rattle.ckpt_file.specs.Checkpoint.{checkpoint, checkpoint_values, ReadsCheckpoint}
+use Rattle.ckpt_file.proofs.Filling.{word_back}
 use Rattle.report_reader.specs.Block.{Block}
+use Rattle.report_reader.specs.Report.{Report, report_in}
 use Rattle.report_text.specs.Block.{block_text}
 use Rattle.line_reader.specs.Difference.{Difference, first_difference}
 use Rattle.line_reader.specs.Lines.{lines_of}
@@ -19,7 +28,8 @@ use Rattle.smemu.specs.Checkpoints.{IsCheckpointOf}
 use Rattle.smemu.specs.DifferLines.{parting_line}
 use Rattle.smemu.specs.Replay.{text_in, text_of, DiffersSo, EndsAsSaid, IsBlockIn, IsReplayOf}
 use Rattle.smemu.specs.Resume.{rest_of, rest_text, IsRestIn, IsResumeOf, RestDiffers, RestEnds}
-use Rattle.smemu_laws.proofs.OneAnswer.{one_block}
+use Rattle.smemu_laws.proofs.GoesOn.{below_budget, budget_kept}
+use Rattle.smemu_laws.proofs.OneAnswer.{one_block, same_said}
 use Rattle.smemu_laws.proofs.OneResume.{one_told, told, Told}
 
 -- ---- the replay of a block, by what it is of
@@ -179,6 +189,59 @@ left_over file report thread count bytes text c h =
     here.end.state here.end.stop here.end.run more in
     omega (arith, within, counts)
 
+-- ---- where the report reads what was written, it was not either
+
+same_front : (v w more rest : List ℕ) → length v ≡ length w → v ++ more ≡ w ++ rest → (v ≡ w) × (more ≡ rest)
+same_front [] [] more rest l e = (refl, e)
+same_front [] (y ∷ ys) more rest l e = absurd (omega (arith, l))
+same_front (x ∷ xs) [] more rest l e = absurd (omega (arith, l))
+same_front (x ∷ xs) (y ∷ ys) more rest l e =
+    let first : x ≡ y = cc in
+    let others : xs ++ more ≡ ys ++ rest = cc in
+    let long : length xs ≡ length ys = omega (arith, l) in
+    let same = same_front xs ys more rest long others in
+    ((λ i. first i ∷ same.0 i), same.1)
+
+-- the fields of two counts in one file
+count_fields : (digest : List ℕ) (options : Numbers) (s t : State) (m n u v : ℕ)
+    → checkpoint digest options s m u ≡ checkpoint digest options t n v → little_bytes 4 s.count ≡ little_bytes 4 t.count
+unfolding checkpoint checkpoint_values thread_values
+count_fields digest options s t m n u v e =
+    let front = first_values digest options in
+    let later = same_front (concat front) (concat front) _ _ refl (sym (concat-append front _) ∙ e ∙ concat-append front _) in
+    let number = same_front (little_bytes 4 m) (little_bytes 4 n) _ _ refl later.1 in
+    (same_front (little_bytes 4 s.count) (little_bytes 4 t.count) _ _ refl number.1).0
+
+module _ (file report : List ℕ) (thread count : ℕ) (bytes : List ℕ) (c : IsCheckpointOf file report thread count bytes)
+    (r : IsRestIn file report bytes)
+  where
+    reads_there : ReadsCheckpoint bytes c.at.said r.from r.thread r.used
+    reads_there =
+        subst (λ (s : Report). ReadsCheckpoint bytes s r.from r.thread r.used)
+        (same_said (report_in report) r.at.said c.at.said r.at.reads c.at.reads) r.reads
+
+    corner : c.at.config.budget ≤ count → ⊥
+    corner over =
+        let most =
+        within_budget c.at.program c.at.config thread c.at.block.journal c.stands.turns c.state c.used c.stands.left c.stands.reached in
+        let counts = c.stands.counts in
+        let spent : c.state.count ≡ c.at.config.budget = omega (arith, most, counts, over) in
+        let same =
+        count_fields c.at.said.image c.at.said.options r.from c.state r.thread thread r.used c.used (sym reads_there.file ∙ c.is_text) in
+        let read : r.from.count ≡ c.at.said.options.budget =
+        sym (word_back r.from.count reads_there.widths.count) ∙ ap (little_number 4) same
+        ∙ ap (λ n. little_number 4 (little_bytes 4 n)) (spent ∙ ap (λ (o : Numbers). o.budget) c.at.given)
+        ∙ budget_kept bytes c.at.said r.from r.thread r.used reads_there in
+        let below = below_budget bytes c.at.said r.from r.thread r.used reads_there in
+        omega (arith, read, below)
+
+    budget_left : count < c.at.config.budget
+    budget_left = elim (compared count c.at.config.budget) [
+      | inl less ↦ less
+      | inr (inl same) ↦ absurd (corner (omega (arith, same)))
+      | inr (inr more) ↦ absurd (corner (omega (arith, more)))
+    ]
+
 -- ---- from a checkpoint that was written
 
 module _ (file report : List ℕ) (thread count : ℕ) (bytes text : List ℕ) (c : IsCheckpointOf file report thread count bytes) where
@@ -186,12 +249,15 @@ module _ (file report : List ℕ) (thread count : ℕ) (bytes text : List ℕ) (
   resumes h =
       replayed file report thread count bytes c (c.read_back (left_over file report thread count bytes text c h)) text h
 
-  module _ (within : count < c.at.config.budget) where
-    pub same_block : IsResumeOf file report bytes text ↔ IsReplayOf file report thread text
-    same_block = (resumed file report thread count bytes c (c.read_back within) text, resumes)
+  replays : IsResumeOf file report bytes text → IsReplayOf file report thread text
+  replays h = resumed file report thread count bytes c (c.read_back (budget_left file report thread count bytes c h.rest)) text h
 
-    pub same_difference : RestDiffers file report bytes text ↔ DiffersSo file report thread text
-    same_difference = (
-      resume_differs file report thread count bytes c (c.read_back within) text,
-      replay_differs file report thread count bytes c (c.read_back within) text,
-    )
+  pub same_block : IsResumeOf file report bytes text ↔ IsReplayOf file report thread text
+  same_block = (replays, resumes)
+
+  pub same_difference : IsRestIn file report bytes → RestDiffers file report bytes text ↔ DiffersSo file report thread text
+  same_difference r =
+      let reads = c.read_back (budget_left file report thread count bytes c r) in (
+        resume_differs file report thread count bytes c reads text,
+        replay_differs file report thread count bytes c reads text,
+      )

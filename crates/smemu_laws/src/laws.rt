@@ -80,20 +80,17 @@ pub fn each_name_is_a_file()
 {}
 
 /// From a checkpoint that was written of a thread of a report, the rest of the thread's run is told as its
-/// replay is. Where the replay comes to the block, the rest does; where the budget was not used up at the
-/// checkpoint, the report reads it, and both come to the same block, or to the same difference.
+/// replay is: both come to the same block, if to any; and where the report reads the checkpoint, which it does
+/// where the budget was not used up there, to the same difference.
 pub fn resumes_as_replays()
     ensures read { (file report checkpoint : List ℕ) (thread count : ℕ)
         (c : IsCheckpointOf file report thread count checkpoint) → count < c.at.config.budget
         → checkpoint_fault c.at.said checkpoint ≡ None }
-    ensures replayed { (file report checkpoint text : List ℕ) (thread count : ℕ)
-        → IsCheckpointOf file report thread count checkpoint
-        → IsReplayOf file report thread text → IsResumeOf file report checkpoint text }
     ensures block { (file report checkpoint text : List ℕ) (thread count : ℕ)
-        (c : IsCheckpointOf file report thread count checkpoint) → count < c.at.config.budget
+        → IsCheckpointOf file report thread count checkpoint
         → IsResumeOf file report checkpoint text ↔ IsReplayOf file report thread text }
     ensures differs { (file report checkpoint text : List ℕ) (thread count : ℕ)
-        (c : IsCheckpointOf file report thread count checkpoint) → count < c.at.config.budget
+        → IsCheckpointOf file report thread count checkpoint → IsRestIn file report checkpoint
         → RestDiffers file report checkpoint text ↔ DiffersSo file report thread text }
 {}
 
