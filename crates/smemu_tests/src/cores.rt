@@ -98,38 +98,40 @@ fn written_at_gate<R: AllocGlobal + Threads + Wait + Sync>(
     Ok((gate, out))
 }
 
-// A body that runs the threads on one core passes no gate; one that runs a core after the other, or only some
-// of them at once, has a first pass that misses the others; one that leaves turns to the caller tells too few.
+// Each thread is on a core of its own. A body that runs the threads on one core passes no gate, of one thread
+// too; one that runs a core after the other, or only some of them at once, has a first pass that misses the
+// others; one that leaves turns to the caller tells too few.
 #[test]
 fn a_run_uses_all_its_cores(rt: HostRuntime) -> Result<(), Fail> {
-    for (number, cores, ones, fives) in [
-        ("2", 2, [1, 1, 0, 0], [5, 5, 0, 0]),
-        ("4", 4, [1, 1, 1, 1], [5, 5, 5, 5]),
+    for (threads, cores, used, firsts, passes) in [
+        ("1", "2", 1, [[1, 0, 0, 0], [0, 1, 0, 0]], [5, 0, 0, 0]),
+        ("2", "2", 2, [[1, 1, 0, 0]; 2], [5, 5, 0, 0]),
+        ("4", "4", 4, [[1; 4]; 2], [5; 4]),
     ] {
         let words = [
             "run",
             "answer",
             "--threads",
-            number,
+            threads,
             "--cores",
-            number,
+            cores,
             "--slice",
             "1",
         ];
         let mut files = answer_file(rt.alloc())?;
-        let (gate, out) = written_at_gate(&rt, &words, &mut files, cores)?;
+        let (gate, out) = written_at_gate(&rt, &words, &mut files, used)?;
         assert_eq!(rt; gate.missed.load(Ordering::SeqCst), 0);
-        assert_eq!(rt; counts(&gate.firsts), ones);
-        assert_eq!(rt; counts(&gate.passes), fives);
+        assert!(rt; firsts.contains(&counts(&gate.firsts)));
+        assert_eq!(rt; counts(&gate.passes), passes);
         let report = std::str::from_utf8(out.bytes()).map_err(|_| "not text")?;
         let turns = report.lines().filter(|line| *line == "turns 5").count();
-        assert_eq!(rt; turns as u64, cores);
+        assert_eq!(rt; turns as u64, used);
     }
     Ok(())
 }
 
-// A thread of workload N executes N + 10 instructions and looks for signals after each 1,000 of them, which is
-// a turn too; a pass of the gate is for 1,000 turns.
+// A thread of workload N executes N + 10 instructions and looks for signals after each 1,000 of them, which
+// is a turn too; a pass of the gate is for 1,000 turns.
 #[test]
 fn a_bench_uses_all_its_cores(rt: HostRuntime) -> Result<(), Fail> {
     for (number, passes) in [("1", 1), ("3000", 4)] {
