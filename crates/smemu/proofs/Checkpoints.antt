@@ -1,6 +1,6 @@
 -- The checkpoint of a thread of a report, from what its parts say.
-use Rattle.std.proofs.Common.{◌≡◌, inl, ℕ, zero, suc, ◌<◌, ◌≤◌, List, [], ◌∷◌, length, map, refl, ◌∙◌}
-use Rattle.std.proofs.Common.{ap, arith, Option, Some, None, Result, Ok, Err}
+use Rattle.std.proofs.Common.{◌≡◌, inl, ℕ, zero, suc, ◌+◌, ◌<◌, ◌≤◌, List, [], ◌∷◌, length, map, refl, ◌∙◌}
+use Rattle.std.proofs.Common.{ap, arith, length-append, Option, Some, None, Result, Ok, Err}
 use Rattle.std.specs.Prelude.{slice_get, slice_index}
 use Rattle.cmd_words.specs.Command.{asking}
 use Rattle.cmd_words.specs.Options.{default_options}
@@ -42,6 +42,12 @@ module _ (program : Program) (config : Config) (thread : ℕ) (journal : List Ev
       counts = h.counts;
       first = h.first;
     }
+
+    pub few_used : length (journal_of context) ≤ length journal
+    few_used =
+        let whole : length journal ≡ length (journal_of context) + length h.left =
+        ap length h.events ∙ length-append (journal_of context) h.left in
+        omega (arith, whole)
 
     pub stops_so : (stop : Stop) → stop_of context ≡ Some stop → StopsAt program config thread journal count stop
     stops_so stop is = record {
@@ -95,7 +101,7 @@ checkpoint_accepted program report thread count file bytes (Err r) h = absurd h
 same_block : (a b : Block) → ◌≡◌ {A = Option Block} (Some a) (Some b) → a ≡ b
 same_block a b e = cc
 
-index_said : (f : Block → ℕ) (blocks : List Block) (k : ℕ) (b : Block) → slice_get blocks k ≡ Some b → slice_index (map f blocks) k ≡ f b
+pub index_said : (f : Block → ℕ) (blocks : List Block) (k : ℕ) (b : Block) → slice_get blocks k ≡ Some b → slice_index (map f blocks) k ≡ f b
 index_said f [] k b e = cc
 index_said f (x ∷ xs) zero b e = ap f (same_block x b e)
 index_said f (x ∷ xs) (suc k) b e = index_said f xs k b e

@@ -5,6 +5,7 @@ pub mod Ends
 pub mod Replays
 pub mod Debugs
 pub mod Checkpoints
+pub mod ReadBack
 pub mod Resumes
 pub mod Checks
 pub mod Benches

@@ -9,7 +9,7 @@ use Rattle.kernel_contexts.specs.Run.{At, Ended, reach}
 use Rattle.lone_runner.specs.Parting.{IsPartingBefore, state_at}
 use Rattle.lone_runner.specs.declared.fault.AloneFault.{AloneFault}
 use Rattle.lone_runner.specs.declared.fault.AloneFault.TheVariants.{EndsEarly}
-use Rattle.ckpt_file.specs.Checkpoint.{checkpoint}
+use Rattle.ckpt_file.specs.Checkpoint.{checkpoint, ReadsCheckpoint}
 use Rattle.command_lines.specs.CheckpointLines.{checkpoint_line}
 use Rattle.command_lines.specs.declared.checkpoint_line.CheckpointFault.TheVariants.{Count}
 use Rattle.smemu.specs.DifferLines.{parting_line}
@@ -46,7 +46,8 @@ FallsShort program config thread journal count fault =
     IsPartingBefore program config thread journal count fault
     ⊎ ((stop : Stop) × StopsAt program config thread journal count stop × (fault ≡ EndsEarly count stop))
 
--- the text is the checkpoint of a thread of a report at a count below that of its block
+-- the text is the checkpoint of a thread of a report at a count below that of its block; where the budget is
+-- not used up there, the report reads the text back
 pub record IsCheckpointOf (file report : List ℕ) (thread count : ℕ) (text : List ℕ) : Type 0 where
   pub at : IsBlockIn file report thread
   pub below : count < at.block.count
@@ -54,6 +55,7 @@ pub record IsCheckpointOf (file report : List ℕ) (thread count : ℕ) (text : 
   pub used : ℕ
   pub stands : StandsAt at.program at.config thread at.block.journal count state used
   pub is_text : text ≡ checkpoint at.said.image at.said.options state thread used
+  pub read_back : count < at.config.budget → ReadsCheckpoint text at.said state thread used
 
 -- the count is not below that of the block, and the text says so
 pub record IsLate (file report : List ℕ) (thread count : ℕ) (text : List ℕ) : Type 0 where

@@ -1,7 +1,7 @@
 //! The checkpoint of a guest thread of a report, at a count of its instructions.
-ghost use Rattle.std.specs.Prelude.{◌≡◌, ◌<◌, IfOk, IfErr, None, Ok, length, true};
+ghost use Rattle.std.specs.Prelude.{◌≡◌, ◌<◌, ◌≤◌, IfOk, IfErr, None, Ok, length, true};
 ghost use Rattle.elf_loader.specs.Loading.{Loads};
-ghost use Rattle.kernel_contexts.specs.Context.{config_of, is_home, journal_of, state_of, stop_of};
+ghost use Rattle.kernel_contexts.specs.Context.{config_of, image_of, is_home, journal_of, state_of, stop_of};
 ghost use Rattle.kernel_contexts.specs.Context.{thread_of};
 ghost use Rattle.lone_runner.specs.Parting.{IsShown};
 ghost use Rattle.report_reader.specs.Report.{report_in};
@@ -14,7 +14,7 @@ use crate::ending::{Difference, Ending};
 use crate::files::Opened;
 use crate::refusal::Refusal;
 use crate::replay::check_match;
-use ckpt_file::write_ckpt;
+use ckpt_file::{checkpoints_are_read, write_ckpt};
 use kernel_contexts::Context;
 use lone_runner::{AloneFault, run_to};
 use paged_memory::Image;
@@ -32,6 +32,7 @@ fn run_block_to(
     count: u32,
 ) -> Result<Context, Refusal>
     requires { thread < config.now.threads }
+    ensures image { IfOk result (λ context. image_of context ≡ image.now) }
     ensures config { IfOk result (λ context. config_of context ≡ config.now) }
     ensures shown { IfOk result (IsShown image.now config.now thread block.now.journal.items count) }
     ensures before { IfErr result (IsBeforeRefusal image.now config.now thread (block_said block.now) count) }
@@ -60,10 +61,13 @@ fn stand_at(
     count: u32,
 ) -> Result<Context, Refusal>
     requires { thread < config.now.threads }
+    ensures image { IfOk result (λ context. image_of context ≡ image.now) }
     ensures config { IfOk result (λ context. config_of context ≡ config.now) }
     ensures number { IfOk result (λ context. thread_of context ≡ thread) }
     ensures home { IfOk result (λ context. is_home context ≡ true) }
     ensures runs { IfOk result (λ context. stop_of context ≡ None) }
+    ensures events { IfOk result (λ context.
+        length (journal_of context) ≤ length block.now.journal.items) }
     ensures stands { IfOk result (λ context. StandsAt image.now config.now thread
         block.now.journal.items count (state_of context) (length (journal_of context))) }
     ensures short { IfErr result (IsShortRefusal image.now config.now thread (block_said block.now) count) }
@@ -99,6 +103,7 @@ pub fn checkpoint_report(
         return Err(Refusal::Ended(Ending::Late(block.count)));
     }
     let context = stand_at(alloc, image, &content.config, thread, block, count)?;
+    checkpoints_are_read(&context);
     let bytes = write_ckpt(alloc, &context, &content.image)?;
     Ok(Answer::Text(Text::Checkpoint(bytes)))
 }

@@ -8,6 +8,7 @@ pub returns-in-Err : goal.returns-in-Err
 returns-in-Err c =
     let other : c.in-Err.fault ≢ Memory = search rules in
     record {
+      image = tt;
       config = tt;
       shown = tt;
       before =
