@@ -1,6 +1,5 @@
 //! The marked calls of a run that is under way.
-ghost use Rattle.std.specs.Prelude.{◌≡◌, ◌+◌, ◌<◌, ◌≤◌, ◌^◌, [], ℕ, suc, true, false, not, Ok, Some, None};
-ghost use Rattle.std.specs.Prelude.{IfOk, IsTrue, length};
+ghost use Rattle.std.specs.Prelude.{◌≡◌, ◌+◌, ◌<◌, ◌≤◌, ◌^◌, [], ℕ, suc, true, false, not, Ok, Some, IfOk, length};
 ghost use Rattle.std.specs.List.{All, Contains, filter};
 ghost use Rattle.kernel_contexts.specs.Context.{state_of, is_home};
 ghost use Rattle.kernel_contexts.specs.State.{State};
@@ -199,7 +198,6 @@ impl Watch {
     /// Goes on to the state that the thread has come to by its turn, which was a call if there is an address
     /// past it, and tells the first fault there; `keeps` says that the turn left code that may not be written
     /// as it was. `Memory` is want of memory.
-    #[inline(never)]
     pub fn go_on(
         &mut self,
         context: &Context,
@@ -223,18 +221,7 @@ impl Watch {
         }
     }
 
-    /// Whether nothing is to be told of a turn, and all is as it was: it is no call, leaves code that may not be
-    /// written as it was, and no call comes back where the thread has come to.
-    #[inline]
-    fn passes(&self, context: &Context, past: Option<u64>, keeps: bool) -> bool
-        ensures { IsTrue result → (keeps ≡ true) × (past ≡ None)
-            × (is_near self.now.near (state_of context.now).core.scalars.pc ≡ false) }
-    {
-        keeps && past.is_none() && !self.is_near(context.machine().scalars.pc)
-    }
-
     /// Goes on so, where no fault was told before; one that was told is told again.
-    #[inline]
     pub fn tell(
         &mut self,
         context: &Context,
@@ -252,9 +239,6 @@ impl Watch {
     {
         if found.is_some() {
             return Ok(found);
-        }
-        if self.passes(context, past, keeps) {
-            return Ok(None);
         }
         match self.go_on(context, past, keeps)? {
             Some(kind) => Ok(Some(Abi::No {
