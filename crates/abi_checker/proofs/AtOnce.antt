@@ -17,6 +17,7 @@ use Rattle.lone_runner.specs.Parting.{parting_at}
 use Rattle.lone_runner.proofs.Partings.{compared}
 use Rattle.lone_runner.proofs.Several.{way_goes_on, gone_at, not_passed, up_to_count}
 use Rattle.abi_checker.specs.Marks.{word_in}
+use Rattle.abi_checker.specs.Near.{is_near}
 use Rattle.abi_checker.specs.Straight.{KeepsCode}
 use Rattle.abi_checker.specs.Checked.{states_of}
 use Rattle.abi_checker.specs.Whole.{IsWholeWith, IsWholeAt}
@@ -30,6 +31,9 @@ use Rattle.abi_checker.specs.declared.watch.Watch.{Watch}
 use Rattle.abi_checker.proofs.Executed.{either_turn}
 use Rattle.abi_checker.proofs.Followed.{now_state, past_counted}
 use Rattle.abi_checker.proofs.WholeStates.{whole_at}
+use Rattle.abi_checker.proofs.Staying.{blocks_stay}
+use Rattle.abi_checker.proofs.Settled.{none_settles}
+use Rattle.abi_checker.proofs.Went.{went_uncalled}
 use Rattle.abi_checker.proofs.Quiet.{AreCounted, are_counted, run_after, no_call, code_each, watched_each}
 
 -- a fault that was told is told later
@@ -265,6 +269,33 @@ module _ (program : Program) (config : Config) (thread : ℕ) (journal : List Ev
     pub round_quiet : is_some found ≡ false → IsFollowed program config thread journal count new ticket later None
     round_quiet quiet =
         subst (λ o. IsFollowed program config thread journal count new ticket later o) (none_of found quiet) round_followed
+
+-- nothing is told after turns that are quiet, where no call comes back
+quiet_tells : (new : Context) (mid : Watch) (next : Next) → next.keeps ≡ true → next.call ≡ None
+    → is_near mid.near (state_of new).core.scalars.pc ≡ false → (run : ℕ → State) (m : ℕ) → IsUnderWay run m mid None
+    → run (suc m) ≡ state_of new → IsPast (run m) (run (suc m)) next.call → (run m).count ≤ (run (suc m)).count
+    → IsWholeAt run (suc m) → (next.keeps ≡ true → KeepsCode (run m).core.memory (run (suc m)).core.memory)
+    → IsUnderWay run (suc m) mid None
+quiet_tells new mid next keeps call away run m w e past grows whole code =
+    went_uncalled run m mid (state_of new) w e grows
+    (blocks_stay mid.near (run m).core.memory (state_of new).core.memory mid.blocks.known
+    (subst (λ (s : State). KeepsCode (run m).core.memory s.core.memory) e (code keeps)) w.known)
+    mid (none_settles (state_of new) mid w.near away) (λ c p r. whole)
+    (subst (λ o. IsPast (run m) (run (suc m)) o) call past)
+
+module _ (program : Program) (config : Config) (thread : ℕ) (journal : List Event) (count : ℕ) (old : Context) (ticket : ReplayEvents)
+    (same : config_of old ≡ config) (is : thread_of old ≡ thread) (watch : Watch)
+    (h : IsFollowed program config thread journal count old ticket watch None) (new : Context) (n least told : ℕ)
+    (e : AdvancesSeveral least old new n) (mid : Watch) (next : Next) (counts : told ≡ (state_of old).count)
+    (few : least ≡ min next.most (count - told))
+    (watched : (run : ℕ → State) (m : ℕ) → IsWatched run m watch → run m ≡ state_of old → IsWatched run m mid)
+    (planned : (run : ℕ → State) (m : ℕ) → IsWatched run m watch → run m ≡ state_of old → IsPlanned mid.near (run m) next)
+    (whole : IsWholeWith (vector_bytes (config_of new).svl) (state_of new).core) (some : n ≡ 0 → ⊥)
+    (keeps : next.keeps ≡ true) (call : next.call ≡ None) (away : is_near mid.near (state_of new).core.scalars.pc ≡ false) where
+  pub round_passes : IsFollowed program config thread journal count new ticket mid None
+  round_passes =
+      round_followed program config thread journal count old ticket same is watch h new n least told e mid next counts few watched
+      planned mid None (quiet_tells new mid next keeps call away) whole some
 
 -- a fault was told, and the turns go on
 found_later : (run : ℕ → State) (n k : ℕ) (watch : Watch) (found : Option Abi) → is_some found ≡ true → IsUnderWay run n watch found

@@ -8,14 +8,18 @@ use Rattle.std.proofs.lemmas.Bool.{and_parts, cases_Bool}
 use Rattle.std.proofs.lemmas.Nat.{and_assoc}
 use Rattle.sm_types.specs.declared.insn.Insn.{Insn}
 use Rattle.sm_types.specs.declared.insn.Insn.TheVariants as insn
+use Rattle.sm_types.specs.declared.insn.System.{System}
+use Rattle.sm_types.specs.declared.insn.System.TheVariants as system
 use Rattle.insn_forms.specs.declared.field.Field.{Field}
 use Rattle.insn_forms.specs.declared.line.Line.{Line}
 use Rattle.insn_forms.specs.Tables.{Table, insn_in, meaning_in, meaning_by, stands_for, fits_in}
 use Rattle.insn_forms.proofs.Tables.{differ, not_alike}
 use Rattle.a64_table.specs.declared.operation.Operation.{Operation}
 use Rattle.a64_table.specs.declared.operation.Operation.TheVariants as operation
+use Rattle.a64_table.specs.declared.operation.SystemOp.{SystemOp}
+use Rattle.a64_table.specs.declared.operation.SystemOp.TheVariants.{Svc, Brk, Udf, Hint, Dmb, Dsb, Isb}
 use Rattle.a64_table.specs.declared.rows.TheConstants.{SCALAR_LINES}
-use Rattle.a64_table.specs.Named.{named}
+use Rattle.a64_table.specs.Named.{named, named_system}
 use Rattle.a64_table.specs.Table.{scalar, meaning_of}
 use Rattle.sve_table.specs.declared.operation.VectorOperation.{VectorOperation}
 use Rattle.sve_table.specs.declared.operation.VectorOperation.TheVariants as vectors
@@ -28,43 +32,20 @@ use Rattle.abi_checker.specs.Straight.{has_bits, is_plain_word, is_jump_word}
 -- ---- plain instructions, and jumps
 
 -- after the instruction PC goes on by 4, and of memory it changes no more than it may write
+abbrev pub is_quiet_system : System → Bool
+is_quiet_system (system.Svc imm) = false
+is_quiet_system (system.Brk imm) = false
+is_quiet_system (system.Udf imm) = false
+is_quiet_system (system.Hint imm) = true
+is_quiet_system (system.Dmb imm) = true
+is_quiet_system (system.Dsb imm) = true
+is_quiet_system (system.Isb imm) = true
+
 abbrev pub is_plain_insn : Insn → Bool
-is_plain_insn (insn.AddSubImmediate x) = true
-is_plain_insn (insn.AddSubRegister x) = true
-is_plain_insn (insn.LogicalRegister x) = true
-is_plain_insn (insn.AddSubExtended x) = true
-is_plain_insn (insn.LogicalImmediate x) = true
-is_plain_insn (insn.MoveWide x) = true
-is_plain_insn (insn.BitfieldMove x) = true
-is_plain_insn (insn.Extract x) = true
-is_plain_insn (insn.PcRelative x) = true
-is_plain_insn (insn.AddSubCarry x) = true
-is_plain_insn (insn.ConditionalSelect x) = true
-is_plain_insn (insn.ConditionalCompare x) = true
-is_plain_insn (insn.OneSource x) = true
-is_plain_insn (insn.TwoSource x) = true
-is_plain_insn (insn.Multiply x) = true
-is_plain_insn (insn.LoadStore x) = true
-is_plain_insn (insn.LoadLiteral x) = true
-is_plain_insn (insn.LoadStorePair x) = true
-is_plain_insn (insn.Atomic x) = true
-is_plain_insn (insn.VectorArithmetic x) = true
-is_plain_insn (insn.VectorLogical x) = true
-is_plain_insn (insn.PredicatedBinary x) = true
-is_plain_insn (insn.MultiplyAdd x) = true
-is_plain_insn (insn.PredicatedUnary x) = true
-is_plain_insn (insn.VectorShift x) = true
-is_plain_insn (insn.VectorCopy x) = true
-is_plain_insn (insn.VectorPermute x) = true
-is_plain_insn (insn.VectorReduction x) = true
-is_plain_insn (insn.VectorCompare x) = true
-is_plain_insn (insn.Predicate x) = true
-is_plain_insn (insn.PredicateCount x) = true
-is_plain_insn (insn.ElementCount x) = true
-is_plain_insn (insn.Sve2 x) = true
-is_plain_insn (insn.OuterProduct x) = true
-is_plain_insn (insn.StreamingLength x) = true
-is_plain_insn other = false
+is_plain_insn (insn.Branch x) = false
+is_plain_insn (insn.BranchRegister x) = false
+is_plain_insn (insn.System x) = is_quiet_system x
+is_plain_insn other = true
 
 abbrev pub is_jump_insn : Insn → Bool
 is_jump_insn (insn.Branch x) = true
@@ -73,11 +54,19 @@ is_jump_insn other = false
 
 -- ---- their operations
 
+abbrev is_quiet_op : SystemOp → Bool
+is_quiet_op Svc = false
+is_quiet_op Brk = false
+is_quiet_op Udf = false
+is_quiet_op Hint = true
+is_quiet_op Dmb = true
+is_quiet_op Dsb = true
+is_quiet_op Isb = true
+
 abbrev is_plain_op : Operation → Bool
 is_plain_op (operation.G10 op) = false
 is_plain_op (operation.G11 op) = false
-is_plain_op (operation.G22 op) = false
-is_plain_op (operation.G23 op register) = false
+is_plain_op (operation.G22 op) = is_quiet_op op
 is_plain_op other = true
 
 abbrev is_jump_op : Operation → Bool
@@ -85,14 +74,15 @@ is_jump_op (operation.G10 op) = true
 is_jump_op (operation.G11 op) = true
 is_jump_op other = false
 
-abbrev is_plain_vector : VectorOperation → Bool
-is_plain_vector (vectors.G37 form) = false
-is_plain_vector (vectors.G39 start part) = false
-is_plain_vector (vectors.G40 form) = false
-is_plain_vector (vectors.G41 store size) = false
-is_plain_vector (vectors.G42 to_tile size) = false
-is_plain_vector (vectors.G43 vertical wide) = false
-is_plain_vector other = true
+system_named : (op : SystemOp) (n : Field → ℕ) → is_quiet_op op ≡ true → is_quiet_system (named_system op n) ≡ true
+unfolding named_system
+system_named Svc n e = cc
+system_named Brk n e = cc
+system_named Udf n e = cc
+system_named Hint n e = refl
+system_named Dmb n e = refl
+system_named Dsb n e = refl
+system_named Isb n e = refl
 
 plain_named : (op : Operation) (n : Field → ℕ) (s : Field → ℤ) → is_plain_op op ≡ true → is_plain_insn (named op n s) ≡ true
 unfolding named
@@ -117,8 +107,8 @@ plain_named (operation.G18 form) n s e = refl
 plain_named (operation.G19 op) n s e = refl
 plain_named (operation.G20 op wide index) n s e = refl
 plain_named (operation.G21 form) n s e = refl
-plain_named (operation.G22 op) n s e = cc
-plain_named (operation.G23 op register) n s e = cc
+plain_named (operation.G22 op) n s e = system_named op n e
+plain_named (operation.G23 op register) n s e = refl
 
 jump_named : (op : Operation) (n : Field → ℕ) (s : Field → ℤ) → is_jump_op op ≡ true → is_jump_insn (named op n s) ≡ true
 unfolding named
@@ -146,31 +136,30 @@ jump_named (operation.G21 form) n s e = cc
 jump_named (operation.G22 op) n s e = cc
 jump_named (operation.G23 op register) n s e = cc
 
-plain_vector_named : (op : VectorOperation) (n : Field → ℕ) (s : Field → ℤ) → is_plain_vector op ≡ true
-    → is_plain_insn (vector_named op n s) ≡ true
+plain_vector_named : (op : VectorOperation) (n : Field → ℕ) (s : Field → ℤ) → is_plain_insn (vector_named op n s) ≡ true
 unfolding vector_named
-plain_vector_named (vectors.G24 op) n s e = refl
-plain_vector_named (vectors.G25 op) n s e = refl
-plain_vector_named (vectors.G26 op) n s e = refl
-plain_vector_named (vectors.G27 op) n s e = refl
-plain_vector_named (vectors.G28 op) n s e = refl
-plain_vector_named (vectors.G29 op size) n s e = refl
-plain_vector_named (vectors.G30 form) n s e = refl
-plain_vector_named (vectors.G31 form) n s e = refl
-plain_vector_named (vectors.G32 form) n s e = refl
-plain_vector_named (vectors.G33 form) n s e = refl
-plain_vector_named (vectors.G34 form) n s e = refl
-plain_vector_named (vectors.G35 form) n s e = refl
-plain_vector_named (vectors.G36 form) n s e = refl
-plain_vector_named (vectors.G37 form) n s e = cc
-plain_vector_named (vectors.G38 form) n s e = refl
-plain_vector_named (vectors.G39 start part) n s e = cc
-plain_vector_named (vectors.G40 form) n s e = cc
-plain_vector_named (vectors.G41 store size) n s e = cc
-plain_vector_named (vectors.G42 to_tile size) n s e = cc
-plain_vector_named (vectors.G43 vertical wide) n s e = cc
-plain_vector_named (vectors.G44 op wide) n s e = refl
-plain_vector_named (vectors.G45 form) n s e = refl
+plain_vector_named (vectors.G24 op) n s = refl
+plain_vector_named (vectors.G25 op) n s = refl
+plain_vector_named (vectors.G26 op) n s = refl
+plain_vector_named (vectors.G27 op) n s = refl
+plain_vector_named (vectors.G28 op) n s = refl
+plain_vector_named (vectors.G29 op size) n s = refl
+plain_vector_named (vectors.G30 form) n s = refl
+plain_vector_named (vectors.G31 form) n s = refl
+plain_vector_named (vectors.G32 form) n s = refl
+plain_vector_named (vectors.G33 form) n s = refl
+plain_vector_named (vectors.G34 form) n s = refl
+plain_vector_named (vectors.G35 form) n s = refl
+plain_vector_named (vectors.G36 form) n s = refl
+plain_vector_named (vectors.G37 form) n s = refl
+plain_vector_named (vectors.G38 form) n s = refl
+plain_vector_named (vectors.G39 start part) n s = refl
+plain_vector_named (vectors.G40 form) n s = refl
+plain_vector_named (vectors.G41 store size) n s = refl
+plain_vector_named (vectors.G42 to_tile size) n s = refl
+plain_vector_named (vectors.G43 vertical wide) n s = refl
+plain_vector_named (vectors.G44 op wide) n s = refl
+plain_vector_named (vectors.G45 form) n s = refl
 
 -- ---- the lines of a table
 
@@ -207,8 +196,9 @@ abbrev off_plain : ℕ → ℕ → Bool
 off_plain mask value =
     differ 0x0C000000 0x08000000 mask value
     && (differ 0x1C000000 0x10000000 mask value
-    && (differ 0x9E000000 0x04000000 mask value
-    && differ 0xFE000000 0xA0000000 mask value))
+    && (differ 0x1E000000 0x04000000 mask value
+    && (differ 0x9E000000 0x80000000 mask value
+    && differ 0xFF000000 0xD5000000 mask value)))
 
 off_bits : (word mask value fixed bits : ℕ) → has_bits fixed bits word ≡ true → bit_and word mask ≡ value
     → differ fixed bits mask value ≡ true → ⊥
@@ -220,13 +210,17 @@ not_plain word mask value plain is apart =
     let a = and_parts _ _ apart in
     let b = and_parts _ _ a.1 in
     let d = and_parts _ _ b.1 in
+    let e = and_parts _ _ d.1 in
     elim (or_two (has_bits 0x0C000000 0x08000000 word) _ plain) [
       | inl h ↦ off_bits word mask value 0x0C000000 0x08000000 h is a.0
-      | inr more ↦ elim (or_two (has_bits 0x1C000000 0x10000000 word) _ more) [
+      | inr second ↦ elim (or_two (has_bits 0x1C000000 0x10000000 word) _ second) [
         | inl h ↦ off_bits word mask value 0x1C000000 0x10000000 h is b.0
-        | inr rest ↦ elim (or_two (has_bits 0x9E000000 0x04000000 word) _ rest) [
-          | inl h ↦ off_bits word mask value 0x9E000000 0x04000000 h is d.0
-          | inr last ↦ off_bits word mask value 0xFE000000 0xA0000000 last is d.1
+        | inr third ↦ elim (or_two (has_bits 0x1E000000 0x04000000 word) _ third) [
+          | inl h ↦ off_bits word mask value 0x1E000000 0x04000000 h is d.0
+          | inr fourth ↦ elim (or_two (has_bits 0x9E000000 0x80000000 word) _ fourth) [
+            | inl h ↦ off_bits word mask value 0x9E000000 0x80000000 h is e.0
+            | inr last ↦ off_bits word mask value 0xFF000000 0xD5000000 last is e.1
+          ]
         ]
       ]
     ]
@@ -263,7 +257,7 @@ unfoldable safe_scalar : Line Operation → Bool
 safe_scalar line = is_plain_op line.operation || off_plain line.mask line.value
 
 unfoldable safe_vector : Line VectorOperation → Bool
-safe_vector line = is_plain_vector line.operation || off_plain line.mask line.value
+safe_vector line = true
 
 unfoldable jump_scalar : Line Operation → Bool
 jump_scalar line = is_jump_op line.operation || off_jump line.mask line.value
@@ -276,7 +270,7 @@ unfolding safe_scalar differ
 all_scalar = refl
 
 all_vector : list_all safe_vector VECTOR_LINES ≡ true
-unfolding safe_vector differ
+unfolding safe_vector
 all_vector = refl
 
 jumps_scalar : list_all jump_scalar SCALAR_LINES ≡ true
@@ -302,11 +296,8 @@ module _ (word : ℕ) (plain : is_plain_word word ≡ true) where
 
   vector_sound : (line : Line VectorOperation) → safe_vector line ≡ true → bit_and word line.mask ≡ line.value
       → is_plain_insn (insn_in vector line.operation word) ≡ true
-  unfolding vector safe_vector
-  vector_sound line safe is = elim (or_two (is_plain_vector line.operation) (off_plain line.mask line.value) safe) [
-    | inl op ↦ plain_vector_named line.operation _ _ op
-    | inr off ↦ absurd (not_plain word line.mask line.value plain is off)
-  ]
+  unfolding vector
+  vector_sound line safe is = plain_vector_named line.operation _ _
 
   pub plain_is : (it : Insn) → instruction_of word ≡ Some it → is_plain_insn it ≡ true
   unfolding instruction_of meaning_of vector_meaning_of meaning_by scalar vector

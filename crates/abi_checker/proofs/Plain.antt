@@ -44,7 +44,7 @@ use types.ElementCount.TheVariants as element
 use Rattle.sm_types.specs.declared.matrix.StreamingLength.{StreamingLength}
 use Rattle.sm_types.specs.declared.matrix.StreamingLength.TheVariants as streaming
 use Rattle.bit_ops.specs.declared.sums.Nzcv.{Nzcv}
-use Rattle.scalar_exec.specs.Registers.{with_x, with_x_or_sp, with_flags, past, next_address}
+use Rattle.scalar_exec.specs.Registers.{x_of, with_x, with_x_or_sp, with_flags, past, next_address}
 use Rattle.scalar_exec.specs.Step.{scalar_step}
 use Rattle.scalar_exec.specs.Sums.{sum_to_x, sum_to_sp, add_sub_immediate, add_sub_register, add_sub_extended, add_sub_carry}
 use Rattle.scalar_exec.specs.Logic.{logical_to_x, logical_to_sp, logical_register, logical_immediate}
@@ -60,19 +60,43 @@ use Rattle.mem_access.specs.Values.{set_each, number_at}
 use Rattle.mem_access.specs.SharedAccess.{touched, checked_fault}
 use Rattle.mem_access.specs.Transfer.{access_of, written, stored, registers_after, after_access, after_data, after_bytes, load_store_after, load_store_stored}
 use Rattle.mem_access.specs.Transfer.{pair_after, pair_stored, atomic_after, atomic_stored}
+use Rattle.sm_types.specs.declared.insn.System.{System}
+use Rattle.sm_types.specs.declared.insn.System.TheVariants as system
+use Rattle.sm_types.specs.declared.insn.SystemMove.{SystemMove}
+use Rattle.sm_types.specs.declared.insn.SystemMoveOp.{SystemMoveOp}
+use Rattle.sm_types.specs.declared.insn.SystemMoveOp.TheVariants.{Mrs, Msr}
+use Rattle.sm_types.specs.declared.insn.SystemRegister.{SystemRegister}
+use Rattle.sm_types.specs.declared.insn.SystemRegister.TheVariants as places
+use Rattle.sm_types.specs.declared.matrix.ModePart.{ModePart}
+use Rattle.sm_types.specs.declared.matrix.ModePart.TheVariants.{Sm, Za, Both}
+use Rattle.sm_types.specs.declared.matrix.ArrayAccess.{ArrayAccess}
+use Rattle.sm_types.specs.declared.matrix.ArrayAccess.TheVariants.{Zero, Transfer}
+use Rattle.sm_types.specs.declared.matrix.TileAccess.{TileAccess}
+use Rattle.sm_types.specs.declared.matrix.TileMove.{TileMove}
+use Rattle.sm_types.specs.declared.matrix.TileAdd.{TileAdd}
+use Rattle.sm_types.specs.declared.vector.VectorAccess.{VectorAccess}
+use Rattle.sm_types.specs.declared.vector.VectorAccess.TheVariants as access
+use Rattle.sve_vectors.specs.Registers.{VectorRegisters, predicate_at, vector_at, vector_written}
+use Rattle.sve_access.specs.After as vectors
+use Rattle.za_access.specs.Vectors as array
+use Rattle.za_access.specs.Slices as tile
+use Rattle.tile_ops.specs.declared.slices.SliceAt.{SliceAt}
+use Rattle.tile_ops.specs.Named.{slice_of}
+use Rattle.tile_ops.specs.Moves.{moved_to_tile, moved_to_vector}
 use Rattle.vector_step.specs.Core.{VectorCore}
 use Rattle.vector_step.specs.Step.{vector_step}
 use Rattle.vector_step.specs.Permutes.{after_reduction}
 use Rattle.vector_step.specs.Predicates.{after_compare, after_predicate, after_predicate_count}
 use Rattle.vector_step.specs.Counts.{after_element_count}
-use Rattle.matrix_step.specs.Step.{matrix_step, after_outer_product}
+use Rattle.matrix_step.specs.Step.{MatrixCore, matrix_step, after_outer_product, after_move, after_add}
 use Rattle.matrix_step.specs.Lengths.{after_streaming_length}
 use Rattle.machine_step.specs.ProcessorState.{ProcessorState}
-use Rattle.machine_step.specs.Mode.{length_at}
+use Rattle.machine_step.specs.Mode.{length_at, with_part}
+use Rattle.machine_step.specs.System.{with_nzcv, with_system_register, moved, system_move, core_past}
 use Rattle.machine_step.specs.Effect.{Effect, Raises, Calls, Becomes, Asks, next_of, memory_fault, computed, accesses, accessed, vector_computed, matrix_computed}
-use Rattle.machine_step.specs.Effect.{registers_of, matrix_of}
+use Rattle.machine_step.specs.Effect.{registers_of, matrix_of, system_effect, array_fault, array_accessed}
 use Rattle.abi_checker.specs.Straight.{KeepsCode}
-use Rattle.abi_checker.proofs.Classes.{is_plain_insn, is_jump_insn}
+use Rattle.abi_checker.proofs.Classes.{is_plain_insn, is_jump_insn, is_quiet_system}
 
 -- ---- PC beside the registers
 
@@ -284,6 +308,11 @@ module _ (it : Insn) (s : ProcessorState) (access : DataAccess) (is : access_of 
   access_on : OnPlain s (accesses (touched it s.scalars) it s)
   access_on = by_touch (touched it s.scalars) refl
 
+-- what an access that no check refuses stores
+stored_code : (access : DataAccess) (s : Scalars) (m : AddressSpace) (o : Option (List ℕ)) → access_fault None access s m ≡ None
+    → ((bytes : List ℕ) → o ≡ Some bytes → access.writes ≡ true) → KeepsCode m (written m access.bytes o)
+stored_code access s m o allowed writes = written_code m access.bytes o (λ bytes e. may_write access s m allowed (writes bytes e))
+
 -- which of them write
 store_writes : (op : LoadStoreOp) (x : LoadStore) (s : Scalars) (bytes : List ℕ) → load_store_stored op x s ≡ Some bytes → is_store op ≡ true
 unfolding load_store_stored
@@ -346,6 +375,48 @@ unfolding after_streaming_length
 length_pc size (streaming.Length imm rd) s = x_pc s rd _
 length_pc size (streaming.AddLength predicate imm rn rd) s = sp_pc s rd _
 
+vector_writes : (x : VectorAccess) (s : Scalars) (l : ℕ) (r : VectorRegisters) (bytes : List ℕ) → vectors.stored x r ≡ Some bytes
+    → (vectors.access_of x s l r).writes ≡ true
+unfolding vectors.stored vectors.access_of
+vector_writes (access.Load kind offset pg rn zt) s l r bytes e = cc
+vector_writes (access.Store memory element offset pg rn zt) s l r bytes e = refl
+vector_writes (access.Vector true count rn zt) s l r bytes e = refl
+vector_writes (access.Vector false count rn zt) s l r bytes e = cc
+vector_writes (access.Predicate true count rn pt) s l r bytes e = refl
+vector_writes (access.Predicate false count rn pt) s l r bytes e = cc
+
+array_writes : (store : Bool) (offset rn n size : ℕ) (s : Scalars) (za : List (List ℕ)) (bytes : List ℕ) → array.stored store n za ≡ Some bytes
+    → (array.vector_access store offset rn s size).writes ≡ true
+unfolding array.stored array.vector_access
+array_writes true offset rn n size s za bytes e = refl
+array_writes false offset rn n size s za bytes e = cc
+
+tile_stored : (store : Bool) (slice : SliceAt) (pg : List ℕ) (za : List (List ℕ)) (bytes : List ℕ)
+    → tile.slice_stored store slice pg za ≡ Some bytes → store ≡ true
+unfolding tile.slice_stored
+tile_stored true slice pg za bytes e = refl
+tile_stored false slice pg za bytes e = cc
+
+tile_writes : (x : TileAccess) (slice : SliceAt) (s : Scalars) (pg : List ℕ) (za : List (List ℕ)) (bytes : List ℕ)
+    → tile.slice_stored x.store slice pg za ≡ Some bytes → (tile.slice_access x s pg).writes ≡ true
+unfolding tile.slice_access
+tile_writes x slice s pg za bytes e = tile_stored x.store slice pg za bytes e
+
+add_scalars : (x : TileAdd) (s : MatrixCore) → (after_add x s).scalars ≡ s.scalars
+unfolding after_add
+add_scalars x s = refl
+
+move_scalars : (x : TileMove) (s : MatrixCore) → (after_move x s).scalars ≡ s.scalars
+unfolding after_move
+move_scalars x s = choose x.to_tile
+  where
+    choose : (b : Bool)
+        → (cond b (record s { za = moved_to_tile (slice_of x.slice s.scalars (length s.za)) (predicate_at s.registers x.pg) (vector_at s.registers x.z) s.za })
+        (record s { registers = vector_written s.registers x.z (moved_to_vector (slice_of x.slice s.scalars (length s.za)) (predicate_at s.registers x.pg) s.za (vector_at s.registers x.z)) })).scalars
+        ≡ s.scalars
+    choose true = refl
+    choose false = refl
+
 vectors_on : (vl : ℕ) (it : Insn) (s : ProcessorState)
     → (vector_step (length_at vl s) it (registers_of s)).scalars.pc ≡ s.scalars.pc → GoesOn s (vector_computed vl it s)
 vectors_on vl it s e = record {
@@ -357,6 +428,63 @@ matrix_on : (it : Insn) (s : ProcessorState) → (matrix_step it (matrix_of s)).
 matrix_on it s e = record {
   pc = past_pc s.scalars (matrix_step it (matrix_of s)).scalars e;
   code = same_code s.memory;
+}
+
+-- ---- the system
+
+-- PC and memory are as they were, before PC goes on
+record IsKept (s t : ProcessorState) : Type 0 where
+  pc : t.scalars.pc ≡ s.scalars.pc
+  memory : t.memory ≡ s.memory
+
+past_on : (s t : ProcessorState) → IsKept s t → GoesOn s (core_past t)
+past_on s t k = record {
+  pc = past_pc s.scalars t.scalars k.pc;
+  code = subst (KeepsCode s.memory) (sym k.memory) (same_code s.memory);
+}
+
+nzcv_pc : (s : Scalars) (value : ℕ) → (with_nzcv s value).pc ≡ s.pc
+unfolding with_nzcv
+nzcv_pc s value = refl
+
+register_kept : (vl : ℕ) (register : SystemRegister) (s : ProcessorState) (value : ℕ) → IsKept s (with_system_register vl register s value)
+unfolding with_system_register
+register_kept vl places.Nzcv s value = record { pc = nzcv_pc s.scalars value; memory = refl }
+register_kept vl places.TpidrEl0 s value = record { pc = refl; memory = refl }
+register_kept vl places.Tpidr2El0 s value = record { pc = refl; memory = refl }
+register_kept vl places.Svcr s value = record { pc = refl; memory = refl }
+
+moved_kept : (vl : ℕ) (op : SystemMoveOp) (x : SystemMove) (s : ProcessorState) → IsKept s (moved vl op x s)
+moved_kept vl Mrs x s = record { pc = x_pc s.scalars x.rt _; memory = refl }
+moved_kept vl Msr x s = register_kept vl x.register s (x_of s.scalars x.rt)
+
+move_on : (vl : ℕ) (x : SystemMove) (s : ProcessorState) → GoesOn s (system_move vl x s)
+unfolding system_move
+move_on vl x s = past_on s (moved vl x.op x s) (moved_kept vl x.op x s)
+
+part_kept : (vl : ℕ) (part : ModePart) (on : Bool) (s : ProcessorState) → IsKept s (with_part vl part on s)
+part_kept vl Sm on s = record { pc = refl; memory = refl }
+part_kept vl Za on s = record { pc = refl; memory = refl }
+part_kept vl Both on s = record { pc = refl; memory = refl }
+
+system_on : (x : System) (s : ProcessorState) → is_quiet_system x ≡ true → OnPlain s (system_effect x s)
+system_on (system.Svc imm) s quiet = cc
+system_on (system.Brk imm) s quiet = cc
+system_on (system.Udf imm) s quiet = cc
+system_on (system.Hint imm) s quiet = past_on s s (record { pc = refl; memory = refl })
+system_on (system.Dmb imm) s quiet = past_on s s (record { pc = refl; memory = refl })
+system_on (system.Dsb imm) s quiet = past_on s s (record { pc = refl; memory = refl })
+system_on (system.Isb imm) s quiet = past_on s s (record { pc = refl; memory = refl })
+
+-- ---- ZA in memory
+
+array_on : (x : ArrayAccess) (s : ProcessorState) → array_fault x s ≡ None → GoesOn s (array_accessed x s)
+unfolding matrix_step
+array_on (Zero mask) s check = matrix_on (insn.ArrayAccess (Zero mask)) s refl
+array_on (Transfer store rv offset rn) s check = record {
+  pc = past_pc s.scalars s.scalars refl;
+  code = stored_code (array.vector_access store offset rn s.scalars (length s.bank.za)) s.scalars s.memory _ check
+      (λ bytes e. array_writes store offset rn _ (length s.bank.za) s.scalars s.bank.za bytes e);
 }
 
 -- ---- all of them
@@ -404,16 +532,25 @@ module _ (vl : ℕ) (s : ProcessorState) where
   plain_on (insn.OuterProduct x) plain check = matrix_on (insn.OuterProduct x) s refl
   plain_on (insn.StreamingLength x) plain check =
       matrix_on (insn.StreamingLength x) s (length_pc (length s.bank.za) x s.scalars)
-  plain_on (insn.System x) plain check = cc
-  plain_on (insn.SystemMove x) plain check = cc
+  plain_on (insn.System x) plain check = system_on x s plain
+  plain_on (insn.SystemMove x) plain check = move_on vl x s
   plain_on (insn.Branch x) plain check = cc
   plain_on (insn.BranchRegister x) plain check = cc
-  plain_on (insn.VectorAccess x) plain check = cc
-  plain_on (insn.Mode x) plain check = cc
-  plain_on (insn.ArrayAccess x) plain check = cc
-  plain_on (insn.TileAccess x) plain check = cc
-  plain_on (insn.TileMove x) plain check = cc
-  plain_on (insn.TileAdd x) plain check = cc
+  plain_on (insn.VectorAccess x) plain check = record {
+    pc = past_pc s.scalars s.scalars refl;
+    code = stored_code (vectors.access_of x s.scalars (length_at vl s) s.bank.registers) s.scalars s.memory _ check
+        (λ bytes e. vector_writes x s.scalars (length_at vl s) s.bank.registers bytes e);
+  }
+  plain_on (insn.Mode x) plain check = past_on s (with_part vl x.part x.start s) (part_kept vl x.part x.start s)
+  plain_on (insn.ArrayAccess x) plain check = array_on x s check
+  plain_on (insn.TileAccess x) plain check = record {
+    pc = past_pc s.scalars s.scalars refl;
+    code = stored_code (tile.slice_access x s.scalars (predicate_at s.bank.registers x.pg)) s.scalars s.memory _ check
+        (λ bytes e. tile_writes x _ s.scalars (predicate_at s.bank.registers x.pg) s.bank.za bytes e);
+  }
+  plain_on (insn.TileMove x) plain check =
+      matrix_on (insn.TileMove x) s (ap (λ (k : Scalars). k.pc) (move_scalars x (matrix_of s)))
+  plain_on (insn.TileAdd x) plain check = matrix_on (insn.TileAdd x) s (ap (λ (k : Scalars). k.pc) (add_scalars x (matrix_of s)))
 
 -- a jump changes no memory
 pub jump_on : (vl : ℕ) (s : ProcessorState) (it : Insn) → is_jump_insn it ≡ true → OnJump s (next_of vl it s)

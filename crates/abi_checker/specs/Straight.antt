@@ -15,14 +15,15 @@ abbrev pub has_bits : ℕ → ℕ → ℕ → Bool
 has_bits mask value word = bit_and word mask == value
 
 -- data processing of registers, and loads, stores and atomic accesses of general registers (bits 27 and 26 are
--- 10); data processing of immediates (28 to 26 are 100); SVE that accesses no memory (31 is 0, 28 to 25 are
--- 0010); outer products (31 to 25 are 1010000)
+-- 10); data processing of immediates (28 to 26 are 100); SVE (28 to 25 are 0010); SME (31 is 1, 28 to 25 are
+-- 0000); system instructions that are no exceptions (31 to 24 are 11010101)
 abbrev pub is_plain_word : ℕ → Bool
 is_plain_word word =
     has_bits 0x0C000000 0x08000000 word
     || (has_bits 0x1C000000 0x10000000 word
-    || (has_bits 0x9E000000 0x04000000 word
-    || has_bits 0xFE000000 0xA0000000 word))
+    || (has_bits 0x1E000000 0x04000000 word
+    || (has_bits 0x9E000000 0x80000000 word
+    || has_bits 0xFF000000 0xD5000000 word)))
 
 -- branches (bits 28 to 26 are 101), but not the system instructions and exceptions (31 to 25 are 1101010)
 abbrev pub is_jump_word : ℕ → Bool

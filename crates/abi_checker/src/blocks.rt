@@ -29,16 +29,16 @@ pub struct Blocks {
     pub known: [Block; SLOTS],
 }
 
-/// Whether a word is that of an instruction after which PC goes on by 4, and that accesses memory by general
-/// registers or not at all.
+/// Whether a word is that of an instruction that calls no kernel, and after which PC goes on by 4.
 #[inline]
 fn is_plain_word(word: u32) -> bool
     ensures { result ≡ straight.is_plain_word word }
 {
     word & 0x0C00_0000 == 0x0800_0000
         || word & 0x1C00_0000 == 0x1000_0000
-        || word & 0x9E00_0000 == 0x0400_0000
-        || word & 0xFE00_0000 == 0xA000_0000
+        || word & 0x1E00_0000 == 0x0400_0000
+        || word & 0x9E00_0000 == 0x8000_0000
+        || word & 0xFF00_0000 == 0xD500_0000
 }
 
 /// Whether a word is that of a branch.
@@ -109,6 +109,18 @@ pub struct Next {
     pub call: Option<u64>,
     /// Whether they leave code that may not be written as it is.
     pub keeps: bool,
+}
+
+impl Next {
+    /// Whether nothing is to be told of the turns, but where a call comes back to: none is a call, and they leave
+    /// code that may not be written as it is.
+    #[inline]
+    pub fn is_quiet(self) -> bool
+        ensures keeps { IsTrue result → self.keeps ≡ true }
+        ensures call { IsTrue result → self.call ≡ None }
+    {
+        self.keeps && self.call.is_none()
+    }
 }
 
 /// Whether the instruction at PC is known to leave code that may not be written as it is.

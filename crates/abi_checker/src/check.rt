@@ -47,11 +47,15 @@ fn go_at_once(context: &mut Context, count: u32, watch: &mut Watch) -> Result<Op
     'rounds: loop {
         let left = count - context.count();
         let next = watch.next_turns(context);
+        let quiet = next.is_quiet();
         let made = context.advance_several(next.most.min(left));
         if made == 0 {
             return Ok(None);
         }
         context_is_whole(context);
+        if watch.passes(context, quiet) {
+            continue;
+        }
         let found = watch.tell(context, next.call, next.keeps, None)?;
         if found.is_some() {
             return Ok(found);

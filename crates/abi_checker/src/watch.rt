@@ -1,5 +1,6 @@
 //! The marked calls of a run that is under way.
-ghost use Rattle.std.specs.Prelude.{◌≡◌, ◌+◌, ◌<◌, ◌≤◌, ◌^◌, [], ℕ, suc, true, false, not, Ok, Some, IfOk, length};
+ghost use Rattle.std.specs.Prelude.{◌≡◌, ◌+◌, ◌<◌, ◌≤◌, ◌^◌, [], ℕ, suc, true, false, not, Ok, Some, IfOk};
+ghost use Rattle.std.specs.Prelude.{IsTrue, length};
 ghost use Rattle.std.specs.List.{All, Contains, filter};
 ghost use Rattle.kernel_contexts.specs.Context.{state_of, is_home};
 ghost use Rattle.kernel_contexts.specs.State.{State};
@@ -222,6 +223,7 @@ impl Watch {
     }
 
     /// Goes on so, where no fault was told before; one that was told is told again.
+    #[inline(never)]
     pub fn tell(
         &mut self,
         context: &Context,
@@ -248,6 +250,17 @@ impl Watch {
             })),
             None => Ok(None),
         }
+    }
+
+    /// Whether nothing is to be told where the thread has come to by turns that are quiet: no call comes back
+    /// there.
+    #[inline]
+    pub fn passes(&self, context: &Context, quiet: bool) -> bool
+        ensures quiet { IsTrue result → quiet ≡ true }
+        ensures away { IsTrue result
+            → is_near self.now.near (state_of context.now).core.scalars.pc ≡ false }
+    {
+        quiet && !self.is_near(context.machine().scalars.pc)
     }
 
     /// What is told of a run that is at its end.
