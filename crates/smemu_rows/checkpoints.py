@@ -21,7 +21,7 @@ ON_BANKS = "threads-use-banks-threads-8-slice-9-svl-2048-cores-4.elf.txt"
 COUNTS = {
     **{(program, f"{program}.elf.txt", 0): counts for program, counts in {
         "answer": (1,), "shared-cas": (4, 6), "nested-signals": (30, 45, 60), "signals-one-after-the-other": (41,), "handlers-64-deep-waits": (500, 1020),
-        "signal-while-za-is-dormant": (39, 41), "writes-33-and-then-to-2": (5, 9), "za-lazy-saving": (100,), "4096-pages": ()}.items()},
+        "signal-while-za-is-dormant": (39, 41), "writes-33-and-then-to-2": (5, 9), "handlers": (14, 18), "za-lazy-saving": (100,), "4096-pages": ()}.items()},
     # of version 1
     ("shared-signals", "debug-signals.report", 0): (41, 46), ("debug-handler", "debug-handler.report", 0): (), ("answer", "replay-answer-as-it-is.report", 0): (),
     # four threads on four cores, and more of them that take turns with ZA and with signals
@@ -31,7 +31,7 @@ COUNTS = {
 }
 # the version and how many handlers the thread is in, of which there are checkpoints
 DEPTHS = {(1, 0), (1, 1), (2, 0), (2, 1), (2, 64)}
-# checkpoints of which each field is changed; one of them is of no program with handlers, output or ZA, and one is of version 1
+# checkpoints of which each field is changed: one with no handler and no output, one in a handler in streaming mode with ZA on, and one of version 1
 ANSWER, NESTED, FIRST = ("answer", "answer.elf.txt", 0, 1), ("nested-signals", "nested-signals.elf.txt", 0, 45), ("shared-signals", "debug-signals.report", 0, 46)
 CAS, OF_A_THREAD = ("shared-cas", "shared-cas.elf.txt", 0, 4), ("threads-use-banks", ON_BANKS, 1, 20)
 # the cases of a checkpoint of which any byte is changed
@@ -43,12 +43,12 @@ class Session:
 
     def __init__(self, contents, program, reported, thread, count):
         self.program, self.reported, self.asked = f"{program}.elf", reported, f"{thread} {count}"
-        self.file, self.report, self.write = contents[self.program], contents[reported], lambda report: ckpt(self.file, report, thread, count)
-        self.thread, (self.status, self.content) = thread, self.write(self.report)
+        self.file, self.report, self.thread = contents[self.program], contents[reported], thread
+        self.status, self.content = ckpt(self.file, self.report, thread, count)
 
-    def writes(self, changes=()):
-        """What `ckpt` writes of the report with those changes."""
-        return f"{self.reported} ckpt {self.program} @ {self.asked}\n" + case(self.report, changes, self.write)
+    def writes(self):
+        """What `ckpt` writes."""
+        return f"{self.reported} ckpt {self.program} @ {self.asked}\n" + case(self.report, (), lambda _: (self.status, self.content))
 
     def resumes(self, changes, most=None):
         """What `resume` answers to the checkpoint with each of those changes, or with so many of them."""
@@ -62,6 +62,7 @@ class Session:
 
     @functools.cached_property
     def read(self):
+        """The values of its fields, and where they stand."""
         return read_for(self.content, self.report)
 
     def value(self, at, size):
@@ -175,7 +176,8 @@ def of_room(session):
     """As many handlers and as much output as there may be, and one more."""
     handlers, output = (session.read[1].places[session.read[1].parts[name]] for name in ("handlers", "output"))
     for count in 62, 63:
-        yield (sum(handlers), sum(handlers), b"".join(number(signal, 4) + number(PAGE, 8) for signal in range(1, count + 1))), (handlers[0], sum(handlers), number(count, 4))
+        records = b"".join(number(signal, 4) + number(PAGE, 8) for signal in range(1, count + 1))
+        yield (sum(handlers), sum(handlers), records), (handlers[0], sum(handlers), number(count, 4))
     for count in OUTPUT_LIMIT, OUTPUT_LIMIT + 1:
         yield (sum(output), sum(output), b"z" * count), (output[0], sum(output), number(count, 4))
 
@@ -251,13 +253,14 @@ def refused(contents):
 def other_files(contents):
     """Checkpoints that are resumed for another program and for other reports than theirs, and one that is at fault besides."""
     answer, cas = Session(contents, *ANSWER), Session(contents, *CAS)
-    for program, reported in (("shared-cas.elf", "shared-cas.elf.txt"), ("answer.elf", "shared-cas.elf.txt"), ("shared-cas.elf", "answer.elf.txt"),
-                              ("answer.elf", "replay-answer-as-it-is.report"), ("answer.elf", "answer-with-lengths.elf.txt"), ("answer.elf", "replay-answer-empty.report"),
-                              *(("answer.elf", f"replay-version-2-answer-with-{what}.report") for what in ("count-2", "a-count-more", "another-sp", "a-turn-more"))):
+    for program, reported in ("shared-cas.elf", "shared-cas.elf.txt"), ("answer.elf", "shared-cas.elf.txt"), ("shared-cas.elf", "answer.elf.txt"):
         yield answer.resumed_for(contents, program, reported)
+    for reported in ("replay-answer-as-it-is.report", "answer-with-lengths.elf.txt", "replay-answer-empty.report",
+                     *(f"replay-version-2-answer-with-{what}.report" for what in ("count-2", "a-count-more", "another-sp", "a-turn-more"))):
+        yield answer.resumed_for(contents, "answer.elf", reported)
     yield answer.resumed_for(contents, "shared-cas.elf", "answer.elf.txt", ((0, 1, b"s"),))
-    for what in "another-answer", "another-place", "an-event-more", "its-last-event":
-        yield cas.resumed_for(contents, "shared-cas.elf", f"replay-version-2-shared-cas-with{'out' * what.startswith('its')}-{what}.report")
+    for what in "with-another-answer", "with-another-place", "with-an-event-more", "without-its-last-event":
+        yield cas.resumed_for(contents, "shared-cas.elf", f"replay-version-2-shared-cas-{what}.report")
     for program, others in (("saturate", ("saturate-at-2048",)), ("matmul", ("matmul-at-128-and-128", "matmul-at-2048-and-512"))):
         for other in others:
             yield Session(contents, program, f"{program}.elf.txt", 0, 2).resumed_for(contents, f"{program}.elf", f"{other}.elf.txt")
@@ -272,7 +275,7 @@ def past_the_budget(contents):
             yield session.resumes([AS_IT_IS])
 
 
-# what the words of a command end with, each of whose files is looked at before the next, and whose words are looked at before all files; `@` is the report of answer.elf
+# how commands end whose words, and then whose files, are looked at one after the other; `@` is the report of answer.elf
 WRITTEN_OUT = (
     ("ckpt nowhere replay-answer-empty.report 0 0", 3, "absent: nowhere"), ("ckpt refused-empty.elf nowhere 0 0", 6, "bad file: truncated 0"),
     ("ckpt answer.elf nowhere 0 0", 3, "absent: nowhere"), ("ckpt answer.elf replay-answer-empty.report 1 9", 9, "bad report: line 1: header"),
@@ -287,11 +290,6 @@ WRITTEN_OUT = (
     ("resume answer.elf @", 2, "usage: word 3: missing"), ("resume answer.elf @ 0 @", 2, "usage: word 4: extra"), ("resume", 2, "usage: word 1: missing"))
 
 
-def repeated(piece, times):
-    """A part that stands there so often, as it stands in a case."""
-    return f"{piece.hex()}*{times}"
-
-
 def longest(contents):
     """A file with as many bytes as there may be, of which the first past the last page is told, and one with one byte more, of which nothing is looked at."""
     session = Session(contents, *ANSWER)
@@ -299,7 +297,7 @@ def longest(contents):
     pages, rest = divmod(FILE_LIMIT - end, PAGE)
     for more, line in (0, f"field {end}"), (1, "toolong"):
         assert resume(session.file, session.report, session.content.ljust(FILE_LIMIT + more, b"\0")) == (12, f"bad checkpoint: {line}\n")
-        yield session.resumes([]) + f"{end} {end} {repeated(bytes(PAGE), pages)}+{repeated(bytes(1), rest + more)} 12\tbad checkpoint: {line}|\n"
+        yield session.resumes([]) + f"{end} {end} {bytes(PAGE).hex()}*{pages}+00*{rest + more} 12\tbad checkpoint: {line}|\n"
 
 
 def front_name(events):
@@ -323,7 +321,7 @@ def most_events(contents):
     for events, field in (JOURNAL_LIMIT, 76), (JOURNAL_LIMIT + 1, 72):
         assert resume(contents[f"{program}.elf"], report, contents[front_name(events)]) == (12, f"bad checkpoint: field {field}\n")
         yield f"{reported} resume {program}.elf @ {front_name(events)}\n"
-        yield f"{end} {end} {repeated(event, more)} {said[0]} {said[1]} {count.hex()} 12\tbad checkpoint: field {field}|\n"
+        yield f"{end} {end} {event.hex()}*{more} {said[0]} {said[1]} {count.hex()} 12\tbad checkpoint: field {field}|\n"
 
 
 def changed(contents):
@@ -334,6 +332,7 @@ def changed(contents):
     session = Session(contents, *OF_A_THREAD)
     yield session.resumes(of_numbers(session, itertools.takewhile(lambda place: place[0] < 88, of_head(session))))
     session = Session(contents, *NESTED)
+    yield session.resumes((change,) for change in cuts(session.content, [at for at, _ in session.read[1].places]))
     yield session.resumes(of_any_byte(session), ANY_BYTE)
 
 
