@@ -4,12 +4,13 @@
     tools/changed_files.py [PROGRAM] [--cases N] [--seed S] [--formats NAME,..]
 
 PROGRAM is the emulator; where it is not given it is what ./smemu runs. There are N cases of each format, 1,000 where it is not said, and the same seed makes the
-same cases. The formats are program, source, report, plan, script and vectors. The files are those of crates/smemu_rows/data, and the models those of
+same cases. The formats are program, source, report, plan, script, vectors and checkpoint. The files are those of crates/smemu_rows/data, and the models those of
 examples/ and of crates/smemu_rows, but of a source there is none: it is assembled, and then what comes is listed, or it is refused with a line. A case that
 differs is printed with its words and its changes, as the lists of crates/smemu_rows/data have them. The status is 1 where one differs.
 """
 import argparse
 import concurrent.futures
+import functools
 import os
 import pathlib
 import random
@@ -27,6 +28,7 @@ sys.dont_write_bytecode = True
 import emulator
 from altered import answer as replayed
 from changed import ADDRESSES, BYTES, NUMBERS, PLANS, RUN, SCRIPTS, VECTORS, Unknown, after, answered_vectors, fields_of, listing, options_in, ran
+from expected_ckpt import ckpt, read_for, resume
 from expected_debug import debug, listed
 from world import sim
 
@@ -34,6 +36,8 @@ SECONDS = 60
 CHUNK = 250  # cases that one process makes in a row
 REPORTS = {"nested-signals": "nested-signals.elf.txt", "shared-signals": "debug-signals.report", "shared-cas": "shared-cas.elf.txt", "answer": "answer.elf.txt"}
 LISTED = ("hint-note-stack-and-sections", "data-in-the-text", "section-over-touching-loads", "data-by-the-later-symbol", "loads-in-any-order")
+CHECKPOINTS = (("answer", "answer.elf.txt", 0, 1), ("nested-signals", "nested-signals.elf.txt", 0, 45), ("shared-signals", "debug-signals.report", 0, 46),
+               ("shared-cas", "shared-cas.elf.txt", 0, 4), ("threads-get-a-signal", "debug-four-cores.report", 3, 20))
 SOURCES = ("answer.s", "countdown.s", "strlen.s", "za-lazy-saving.s", "threads.s")
 
 
@@ -89,6 +93,17 @@ def change_of_vectors(chance, content):
     return at, at + 1, b"%x" % chance.choice((0, 1, 2, 3, chance.randrange(16)))
 
 
+def change_of_checkpoint(chance, content, places):
+    """A field at an end of its range, near what it is, left out or doubled, or bytes near its beginning, or the rest cut there."""
+    at, size = chance.choice(chance.choice(places))
+    if chance.randrange(3) == 0:
+        start, end, new = change_of_bytes(chance, content[at:at + 64])
+        return at + start, len(content) if chance.randrange(20) == 0 else at + end, new
+    old, top = int.from_bytes(content[at:at + size], "little"), 1 << 8 * size
+    value = chance.choice((old + chance.randint(-64, 64), chance.randint(-16, 16), top // 2 + chance.randint(-2, 2), chance.randrange(top), 1 << chance.randrange(64)))
+    return at, at + size, chance.choice((*[(value % top).to_bytes(size, "little")] * 8, b"", content[at:at + size] * 2))
+
+
 # ---- formats: the words of a command, the file that is changed, how it is changed, and the answer
 
 
@@ -124,7 +139,23 @@ def vectors(chance, texts):
     return "vectors @", read(chance.choice([*VECTORS])), change_of_vectors, lambda file: answered_vectors(file, texts)
 
 
-FORMATS = {"program": programs, "source": sources, "report": reports, "plan": plans, "script": scripts, "vectors": vectors}
+@functools.cache
+def made_checkpoint(program, reported, thread, count):
+    """A checkpoint, and where its fields stand: those up to the vectors, the vectors, those from there to the first pages, and all."""
+    content = ckpt(read(f"{program}.elf"), read(reported), thread, count)[1]
+    walk = read_for(content, read(reported))[1]
+    vectors, handlers, pages = (walk.parts[name] for name in ("vectors", "handlers", "pages"))
+    return content, (walk.places[:vectors], walk.places[vectors:handlers], walk.places[handlers:pages + 7], walk.places)
+
+
+def checkpoints(chance, texts):
+    program, reported, *asked = chance.choice(CHECKPOINTS)
+    content, places = made_checkpoint(program, reported, *asked)
+    answer = lambda changed: resume(read(f"{program}.elf"), read(reported), changed)
+    return f"resume {program}.elf {reported} @", content, lambda chance, content: change_of_checkpoint(chance, content, places), answer
+
+
+FORMATS = {"program": programs, "source": sources, "report": reports, "plan": plans, "script": scripts, "vectors": vectors, "checkpoint": checkpoints}
 
 
 def answered(smemu, words, changed, folder):

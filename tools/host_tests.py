@@ -36,6 +36,8 @@ UNLISTED = 0x1E604000
 LOOP = 0x14000000
 PAGES_OF_STACK = 64
 MOST_PAGES = 4096
+# where a checkpoint of a thread with no handler, no output and no ZA says how many pages it has, at a VL of 128 bits
+PAGES_AT = 962
 # it polls after each instruction, and each poll is a line: more of them than a pipe holds
 LONG_REPORT = ("run", "loop", "--slice", 1, "--budget", 20_000)
 SCRIPT = "where\nstep 2\nregs\nwhere\n"
@@ -127,10 +129,22 @@ def try_room_of_reports(tests):
             tests.check(f"{key} {number} and {name}", found, (9, f"bad report: line {at + 2}: {kind}\n"))
 
 
+def try_room_of_checkpoints(tests):
+    """A number that says how many pages follow takes no memory: what is not there is told at the field that lacks."""
+    content = (tests.folder / "checkpoint").read_bytes()
+    tests.check("a checkpoint", tests.run("resume", "answer", "report", "checkpoint", before=little_memory)[0], 0)
+    for name, rest in ("the end of the file", b""), ("the pages after it", content[PAGES_AT + 4:]):
+        changed = content[:PAGES_AT] + MOST_PAGES.to_bytes(4, "little") + rest
+        tests.put("cut", changed)
+        found = tests.run("resume", "answer", "report", "cut", before=little_memory)
+        tests.check(f"{MOST_PAGES} pages and {name}", found, (12, f"bad checkpoint: field {len(changed)}\n"))
+
+
 def try_outputs(tests):
     """What cannot be written is status 5, and no signal, of each command and of a refusal."""
     commands = (("run", "answer"), ("run", "answer", "--threads", 2, "--cores", 2), ("asm", "source"), ("dis", "answer"), ("sim", "answer", "plan"),
-                ("replay", "answer", "report", 0), ("abi-check", "answer", "report", 0), ("debug", "answer", "report", 0, "script"), ("vectors", "vectors"),
+                ("replay", "answer", "report", 0), ("ckpt", "answer", "report", 0, 1), ("resume", "answer", "report", "checkpoint"),
+                ("abi-check", "answer", "report", 0), ("debug", "answer", "report", 0, "script"), ("vectors", "vectors"),
                 ("vectors", "vectors", "--cores", 2), ("gen", 1), ("bench", 1), ("--help",), ("--version",), ("walk",), ("run", "nothing"),
                 ("run", "source"), ("vectors", "source"))
     for words in commands:
@@ -218,7 +232,8 @@ def main():
         tests.put("script", SCRIPT)
         tests.put("vectors", VECTORS)
         tests.put("report", tests.run("run", "answer")[1])
-        for test in (try_room_of_loads, try_room_of_reports, try_outputs, try_signals, try_threads):
+        tests.put("checkpoint", tests.start("ckpt", "answer", "report", 0, 1).communicate(timeout=SECONDS)[0])
+        for test in (try_room_of_loads, try_room_of_reports, try_room_of_checkpoints, try_outputs, try_signals, try_threads):
             test(tests)
     print(f"{tests.number} checks, {tests.faults} failed")
     return 1 if tests.faults else 0
