@@ -55,7 +55,7 @@ LOOPS = {
     "subs, b.ne, replay": Loop(elf(GROWN), (2_503, 12_503), command="replay"),
     "subs, b.ne, abi-check": Loop(elf(GROWN), (2_503, 12_503), command="abi-check"),
     "subs, b.ne, ckpt before the end": Loop(elf(GROWN), (2_503, 12_503), command="ckpt"),
-    "subs, b.ne, debug goes before the end": Loop(elf(GROWN), (2_503, 12_503), command="debug"),
+    "subs, b.ne, debug up to its first answer": Loop(elf(GROWN), (2_503, 12_503), command="debug"),
 }
 
 
@@ -74,9 +74,9 @@ def said(program, *words):
 
 
 def last_word(command, budget, script):
-    """The last word of a command over a report, where it has one: the count before the end, or a script that goes there."""
+    """The last word of a command over a report, where it has one: the count before the end, or a script that stays at the start."""
     if command == "debug":
-        script.write_text(f"goto {budget - 1}\n")
+        script.write_text("where\n")
     return {"ckpt": (budget - 1,), "debug": (script,)}.get(command, ())
 
 
