@@ -80,7 +80,8 @@ length_by options true false array l = sym l
 length_by options false true array l = refl
 length_by options false false array l = refl
 
-array_by : (options : Numbers) (on za : Bool) → array_size options (bool_number on + 2 * bool_number za) ≡ (if za then options.svl / 8 else 0)
+array_by : (options : Numbers) (on za : Bool)
+    → array_size options (bool_number on + 2 * bool_number za) ≡ (if za then options.svl / 8 else 0)
 array_by options true true = refl
 array_by options true false = refl
 array_by options false true = refl
@@ -151,7 +152,8 @@ module _ (report : Report) (s : State) (thread events : ℕ) (good : IsInTable r
   output_filled : IsFilled from_output (output_left s)
   output_filled =
       let few : length s.output < 2 ^ 32 = omega (arith, good.few_bytes) in
-      output_fill pages_of s.output (page_values (pages_in s.core.memory)) few (at_most_test (length s.output) 1048576 good.few_bytes) pages_filled
+      output_fill pages_of s.output (page_values (pages_in s.core.memory)) few
+      (at_most_test (length s.output) 1048576 good.few_bytes) pages_filled
 
   handlers_filled : IsFilled from_handlers (handlers_left s)
   handlers_filled =
@@ -185,7 +187,8 @@ module _ (report : Report) (s : State) (thread events : ℕ) (good : IsInTable r
 
   system_filled : IsFilled (from_system report) system_left
   system_filled =
-      system_fill report.options.kernel (from_vectors report) (nzcv_of s.core.scalars) (svcr_of s.core) s.core.tpidr s.core.tpidr2 s.held s.mask
+      system_fill report.options.kernel (from_vectors report) (nzcv_of s.core.scalars)
+      (svcr_of s.core) s.core.tpidr s.core.tpidr2 s.held s.mask
       s.polled (vectors_left s)
       (record {
         nzcv_fits = flags_low s.core.scalars;

@@ -40,7 +40,8 @@ pages_said m (p ∷ ps) good has =
 
 -- ---- vectors
 
-vectors_said : (config : Config) (t : LooseState) (v : VectorState) → HasVectors config t v → length_for (numbers_of config) t.svcr ≡ loose_length config t
+vectors_said : (config : Config) (t : LooseState) (v : VectorState) → HasVectors config t v
+    → length_for (numbers_of config) t.svcr ≡ loose_length config t
     → vector_values v.registers
     ≡ rows 32 (length_for (numbers_of config) t.svcr) t.z.items
     ++ (rows 16 (length_for (numbers_of config) t.svcr / 8) t.p.items ++ t.ffr.items ∷ [])

@@ -58,7 +58,8 @@ narrow_set k (x ∷ xs) m h =
     cond_both (x == 0) _ _ (Each IsNarrowEntry) (λ _. more) (λ _. ((omega (arith, m), h 0), more))
 
 -- those of a table with none at signal 0
-pub table_past : (addresses : List ℕ) → length addresses ≡ 63 → (slice_index addresses 0 == 0) ≡ true → AreHandlersPast 0 (set_from 0 addresses)
+pub table_past : (addresses : List ℕ) → length addresses ≡ 63 → (slice_index addresses 0 == 0) ≡ true
+    → AreHandlersPast 0 (set_from 0 addresses)
 unfolding set_from
 table_past [] l e = absurd (omega (arith, l))
 table_past (x ∷ xs) l e = rw e (past_from 0 1 xs (omega arith) (omega (arith, l)))
@@ -124,7 +125,8 @@ not_none x o e f = cc
 pub each_entry : (m : AddressSpace) → HasPlaces m → Each IsPageEntry (entries m.perm)
 each_entry m h =
     let found = each_found (entries m.perm) (true_of (is_sorted nat_cmp (entries m.perm)) (entries_sorted m.perm)) in
-    each_more {P = λ (e : ℕ × ℕ). find nat_cmp e.0 (entries m.perm) ≡ Some e.1} {Q = λ (e : ℕ × ℕ). find nat_cmp e.0 (entries m.perm) ≡ Some e.1}
+    each_more {P = λ (e : ℕ × ℕ). find nat_cmp e.0 (entries m.perm) ≡ Some e.1}
+    {Q = λ (e : ℕ × ℕ). find nat_cmp e.0 (entries m.perm) ≡ Some e.1}
     {R = IsPageEntry}
     (λ e f g.
     let there : get m.perm e.0 ≡ Some e.1 = get-entries m.perm e.0 ∙ f in
@@ -197,7 +199,8 @@ narrow_pages : (mem : FinMap nat_cmp ℕ) (es : List (ℕ × ℕ)) → Each (λ 
 narrow_pages mem [] h = tt
 narrow_pages mem (e ∷ es) h = let low = h.0.0 in ((omega (arith, low), h.0.1), narrow_pages mem es h.1)
 
-pub memory_narrow : (m : AddressSpace) → Each (λ (e : ℕ × ℕ). (e.0 < 2 ^ 52) × (e.1 < 2 ^ 8)) (entries m.perm) → Each IsNarrowPage (pages_in m)
+pub memory_narrow : (m : AddressSpace) → Each (λ (e : ℕ × ℕ). (e.0 < 2 ^ 52) × (e.1 < 2 ^ 8)) (entries m.perm)
+    → Each IsNarrowPage (pages_in m)
 unfolding pages_in
 memory_narrow m h = narrow_pages m.mem (entries m.perm) h
 

@@ -200,15 +200,34 @@ fields_are_good r t narrow sizes h =
     let o : Numbers = numbers_of r.config in
     let first : IsFilled (from_thread (report_said r)) (thread_left o t) =
     first_good r.image o (from_thread (report_said r)) (thread_left o t) h in
-    let progress = thread_good (report_said r) (from_registers (report_said r)) t.thread t.count t.events t.depth t.turns (registers_left o t)
-    (record { thread_fits = narrow.thread; count_fits = narrow.count; events_fits = narrow.events; depth_fits = narrow.depth; turns_fits = narrow.turns }) first in
+    let progress = thread_good (report_said r) (from_registers (report_said r)) t.thread t.count t.events t.depth t.turns
+    (registers_left o t)
+    (record {
+      thread_fits = narrow.thread;
+      count_fits = narrow.count;
+      events_fits = narrow.events;
+      depth_fits = narrow.depth;
+      turns_fits = narrow.turns;
+    }) first in
     let many : length (doublewords (t.pc ∷ t.sp ∷ t.x)) ≡ 33 = omega (arith, length-map t.x (little_bytes 8), sizes.registers) in
     let registers : IsFilled (from_system (report_said r)) (system_left o t) =
     fields_good 33 8 (from_system (report_said r)) (doublewords (t.pc ∷ t.sp ∷ t.x)) (system_left o t) many progress.1 in
-    let system = system_good r.config.kernel (from_vectors (report_said r)) t.nzcv t.svcr t.tpidr t.tpidr2 t.held t.mask t.polled (vectors_left o t)
-    (record { nzcv_fits = narrow.nzcv; svcr_fits = narrow.svcr; tpidr_fits = narrow.tpidr; tpidr2_fits = narrow.tpidr2; held_fits = narrow.held; mask_fits = narrow.mask }) registers in
+    let system = system_good r.config.kernel (from_vectors (report_said r)) t.nzcv t.svcr t.tpidr t.tpidr2 t.held t.mask t.polled
+    (vectors_left o t)
+    (record {
+      nzcv_fits = narrow.nzcv;
+      svcr_fits = narrow.svcr;
+      tpidr_fits = narrow.tpidr;
+      tpidr2_fits = narrow.tpidr2;
+      held_fits = narrow.held;
+      mask_fits = narrow.mask;
+    }) registers in
     let seventeen : length (predicates_said o t) ≡ 17 =
-    omega (arith, length-append (rows 16 (length_for o t.svcr / 8) t.p.items) (t.ffr.items ∷ []), length-rows 16 (length_for o t.svcr / 8) t.p.items) in
+    omega (
+      arith,
+      length-append (rows 16 (length_for o t.svcr / 8) t.p.items) (t.ffr.items ∷ []),
+      length-rows 16 (length_for o t.svcr / 8) t.p.items,
+    ) in
     let vectors : IsFilled from_handlers (handlers_left t) =
     vectors_good o t.svcr from_handlers (vectors_said o t) (predicates_said o t) (array_said o t) (handlers_left t)
     (length-rows 32 (length_for o t.svcr) t.z.items) seventeen (length-rows (array_size o t.svcr) (o.svl / 8) t.za.items) system.1 in
@@ -220,7 +239,8 @@ fields_are_good r t narrow sizes h =
     let output = output_good pages_of t.output.items (pages_left t) few_bytes handlers.2 in
     let few_pages : length (map page_said t.pages.items) < 2 ^ 32 = omega (arith, length-map t.pages.items page_said, sizes.few_pages) in
     let pages = pages_good (map page_said t.pages.items) few_pages
-    (narrow_pages t.pages.items (each_of_all (λ (p : PageImage). (p.address < 2 ^ 64) × (p.flags < 256)) t.pages.items sizes.pages)) output.1 in
+    (narrow_pages t.pages.items (each_of_all
+    (λ (p : PageImage). (p.address < 2 ^ 64) × (p.flags < 256)) t.pages.items sizes.pages)) output.1 in
     record { progress = progress.0; system = system.0; handlers = handlers.1; pages = pages.1 }
 
 -- so they are those of a thread with the options of the report

@@ -149,7 +149,8 @@ registers_same a b r q wa wb h k e =
     let many : length (map predicate_bytes r.predicates) ≡ length (map predicate_bytes q.predicates) =
     length-map r.predicates predicate_bytes ∙ h.predicate_count ∙ sym (length-map q.predicates predicate_bytes ∙ k.predicate_count) in
     let both =
-    same_fronts (map predicate_bytes r.predicates) (map predicate_bytes q.predicates) (predicate_bytes r.ffr ∷ []) (predicate_bytes q.ffr ∷ [])
+    same_fronts (map predicate_bytes r.predicates) (map predicate_bytes q.predicates) (predicate_bytes r.ffr ∷ [])
+    (predicate_bytes q.ffr ∷ [])
     many vectors.1 in
     let predicates : r.predicates ≡ q.predicates =
     predicates_same 16 r.predicates q.predicates h.predicate_count k.predicate_count
@@ -182,7 +183,8 @@ length-array false za az false same l = refl
 abbrev IsNarrow : ℕ × ℕ → Type 0
 IsNarrow e = (e.0 < 2 ^ 32) × (e.1 < 2 ^ 64)
 
-entries_same : (es fs : List (ℕ × ℕ)) → Each IsNarrow es → Each IsNarrow fs → flat_map handler_value es ≡ flat_map handler_value fs → es ≡ fs
+entries_same : (es fs : List (ℕ × ℕ)) → Each IsNarrow es → Each IsNarrow fs → flat_map handler_value es ≡ flat_map handler_value fs
+    → es ≡ fs
 entries_same [] [] h k e = refl
 entries_same [] (f ∷ fs) h k e = cc
 entries_same (g ∷ es) [] h k e = cc
@@ -440,7 +442,8 @@ module _ (digest : List ℕ) (options : Numbers) (s r : State) (thread number ev
   handlers =
       same_fronts (flat_map handler_value (entries s.handlers)) (flat_map handler_value (entries r.handlers))
       (output_values s.output ++ page_values (pages_in s.core.memory)) (output_values r.output ++ page_values (pages_in r.core.memory))
-      (length-handlers (entries s.handlers) ∙ ap (λ n. 2 * n) handler_count ∙ sym (length-handlers (entries r.handlers))) (ap (drop 1) array.1)
+      (length-handlers (entries s.handlers) ∙ ap (λ n. 2 * n) handler_count ∙ sym (length-handlers (entries r.handlers)))
+      (ap (drop 1) array.1)
 
   same_handlers : s.handlers ≡ r.handlers
   same_handlers =

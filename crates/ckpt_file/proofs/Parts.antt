@@ -102,8 +102,10 @@ thread_good report next thread count events depth turns rest narrow h =
     let t : little_number 4 (little_bytes 4 thread) ≡ thread = word_back thread narrow.thread_fits in (
       record {
         thread_good = ap (λ k. nat_lt k report.options.threads) (sym t) ∙ h.1;
-        count_good = ap (λ k. is_count (slice_index (counts report) thread) report.options.budget k) (sym (word_back count narrow.count_fits))
-            ∙ ap (λ k. is_count (slice_index (counts report) k) report.options.budget (little_number 4 (little_bytes 4 count))) (sym t) ∙ h.2.1;
+        count_good = ap (λ k. is_count (slice_index (counts report) thread) report.options.budget k)
+            (sym (word_back count narrow.count_fits))
+            ∙ ap (λ k. is_count (slice_index (counts report) k) report.options.budget (little_number 4 (little_bytes 4 count))) (sym t)
+            ∙ h.2.1;
         events_good = ap (λ k. are_events (slice_index (journals report) thread) k) (sym (word_back events narrow.events_fits))
             ∙ ap (λ k. are_events (slice_index (journals report) k) (little_number 4 (little_bytes 4 events))) (sym t) ∙ h.2.2.1;
         depth_good = ap (λ k. nat_le k (most_depth report.options.kernel)) (sym (word_back depth narrow.depth_fits)) ∙ h.2.2.2.1;
@@ -123,7 +125,8 @@ thread_fill report next thread count events depth turns rest narrow good h =
       (
         refl,
         ap (λ k. is_count (slice_index (counts report) k) report.options.budget (little_number 4 (little_bytes 4 count))) t
-            ∙ ap (λ k. is_count (slice_index (counts report) thread) report.options.budget k) (word_back count narrow.count_fits) ∙ good.count_good,
+            ∙ ap (λ k. is_count (slice_index (counts report) thread) report.options.budget k) (word_back count narrow.count_fits)
+            ∙ good.count_good,
         (
           refl,
           ap (λ k. are_events (slice_index (journals report) k) (little_number 4 (little_bytes 4 events))) t
@@ -256,7 +259,8 @@ unfolding handlers_of handler_values number
 handlers_good next handlers rest few narrow h =
     let all : IsFilled (repeated handler_row (length handlers) 0 next) (flat_map handler_value handlers ++ rest) =
     subst (λ n. IsFilled (repeated handler_row n 0 next) (flat_map handler_value handlers ++ rest)) (word_back (length handlers) few) h.2 in
-    let good = items_good handler_row handler_value (λ (e : ℕ × ℕ). e.0) IsHandlerPast IsNarrowEntry handler_good handlers 0 next rest narrow all in
+    let good = items_good handler_row handler_value
+    (λ (e : ℕ × ℕ). e.0) IsHandlerPast IsNarrowEntry handler_good handlers 0 next rest narrow all in
     (count_back 62 (length handlers) few h.1, good.0, good.1)
 
 pub handlers_fill : (next : Table) (handlers : List (ℕ × ℕ)) (rest : List (List ℕ)) → length handlers < 2 ^ 32
@@ -264,10 +268,12 @@ pub handlers_fill : (next : Table) (handlers : List (ℕ × ℕ)) (rest : List (
     → IsFilled (handlers_of next) (handler_values handlers ++ rest)
 unfolding handlers_of handler_values number
 handlers_fill next handlers rest few narrow count good h =
-    let all = items_fill handler_row handler_value (λ (e : ℕ × ℕ). e.0) IsHandlerPast IsNarrowEntry handler_fill handlers 0 next rest narrow good h in (
+    let all = items_fill handler_row handler_value
+    (λ (e : ℕ × ℕ). e.0) IsHandlerPast IsNarrowEntry handler_fill handlers 0 next rest narrow good h in (
       refl,
       count_there 62 (length handlers) few count,
-      subst (λ n. IsFilled (repeated handler_row n 0 next) (flat_map handler_value handlers ++ rest)) (sym (word_back (length handlers) few)) all,
+      subst (λ n. IsFilled (repeated handler_row n 0 next) (flat_map handler_value handlers ++ rest))
+          (sym (word_back (length handlers) few)) all,
     )
 
 -- ---- the output
@@ -327,14 +333,16 @@ pages_good pages few narrow h =
     let all : IsFilled (repeated page_row (length pages) 0 End) (flat_map page_value pages ++ []) =
     subst (IsFilled (repeated page_row (length pages) 0 End)) (sym (append-nil (flat_map page_value pages)))
     (subst (λ n. IsFilled (repeated page_row n 0 End) (flat_map page_value pages)) (word_back (length pages) few) h.2) in
-    let good = items_good page_row page_value (λ (p : ℕ × ℕ × List ℕ). p.0 + 1) IsPagePast IsNarrowPage page_good pages 0 End [] narrow all in
+    let good = items_good page_row page_value
+    (λ (p : ℕ × ℕ × List ℕ). p.0 + 1) IsPagePast IsNarrowPage page_good pages 0 End [] narrow all in
     (count_back 4096 (length pages) few h.1, good.0)
 
 pub pages_fill : (pages : List (ℕ × ℕ × List ℕ)) → length pages < 2 ^ 32 → Each IsNarrowPage pages
     → nat_le (length pages) 4096 ≡ true → ArePagesPast 0 pages → IsFilled pages_of (page_values pages)
 unfolding pages_of page_values number
 pages_fill pages few narrow count good =
-    let all = items_fill page_row page_value (λ (p : ℕ × ℕ × List ℕ). p.0 + 1) IsPagePast IsNarrowPage page_fill pages 0 End [] narrow good tt in (
+    let all = items_fill page_row page_value
+    (λ (p : ℕ × ℕ × List ℕ). p.0 + 1) IsPagePast IsNarrowPage page_fill pages 0 End [] narrow good tt in (
       refl,
       count_there 4096 (length pages) few count,
       subst (λ n. IsFilled (repeated page_row n 0 End) (flat_map page_value pages)) (sym (word_back (length pages) few))
@@ -353,7 +361,8 @@ vectors_good options svcr next vectors predicates array rest a b c h =
     fields_good (array_size options svcr) (options.svl / 8) next array rest c
     (fields_good 17 (length_for options svcr / 8) (fields (array_size options svcr) (options.svl / 8) next) predicates (array ++ rest) b
     (fields_good 32 (length_for options svcr)
-    (fields 17 (length_for options svcr / 8) (fields (array_size options svcr) (options.svl / 8) next)) vectors (predicates ++ (array ++ rest)) a apart))
+    (fields 17 (length_for options svcr / 8) (fields (array_size options svcr) (options.svl / 8) next)) vectors
+    (predicates ++ (array ++ rest)) a apart))
 
 pub vectors_fill : (options : Numbers) (svcr : ℕ) (next : Table) (vectors predicates array rest : List (List ℕ))
     → length vectors ≡ 32 → AreOfSize (length_for options svcr) vectors
@@ -364,6 +373,8 @@ unfolding vector_rows
 vectors_fill options svcr next vectors predicates array rest a sizes_a b sizes_b c sizes_c h =
     subst (IsFilled (vector_rows options svcr next)) (sym (append_assoc vectors predicates (array ++ rest)))
     (fields_fill 32 (length_for options svcr)
-    (fields 17 (length_for options svcr / 8) (fields (array_size options svcr) (options.svl / 8) next)) vectors (predicates ++ (array ++ rest)) a sizes_a
-    (fields_fill 17 (length_for options svcr / 8) (fields (array_size options svcr) (options.svl / 8) next) predicates (array ++ rest) b sizes_b
+    (fields 17 (length_for options svcr / 8) (fields (array_size options svcr) (options.svl / 8) next)) vectors
+    (predicates ++ (array ++ rest)) a sizes_a
+    (fields_fill 17 (length_for options svcr / 8) (fields (array_size options svcr) (options.svl / 8) next) predicates
+    (array ++ rest) b sizes_b
     (fields_fill (array_size options svcr) (options.svl / 8) next array rest c sizes_c h)))

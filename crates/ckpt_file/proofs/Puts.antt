@@ -94,8 +94,10 @@ put_signal addresses k old mid new l h more =
     put_as
     (flat_map handler_value (set_from 0 (take k addresses)) ++ flat_map handler_value (set_from k (slice_index addresses k ∷ [])))
     (flat_map handler_value (set_from 0 (take (k + 1) addresses))) old new
-    (sym (ap (flat_map handler_value) next ∙ flat_map-append handler_value (set_from 0 (take k addresses)) (set_from k (get_or addresses k 0 ∷ []))))
-    (put_more (flat_map handler_value (set_from 0 (take k addresses))) (flat_map handler_value (set_from k (slice_index addresses k ∷ []))) old mid new h more)
+    (sym (ap (flat_map handler_value) next ∙ flat_map-append handler_value (set_from 0 (take k addresses))
+    (set_from k (get_or addresses k 0 ∷ []))))
+    (put_more (flat_map handler_value (set_from 0 (take k addresses)))
+    (flat_map handler_value (set_from k (slice_index addresses k ∷ []))) old mid new h more)
 
 -- how many are set
 pub set_count : (k : ℕ) (xs : List ℕ) → count_by (λ a. not (a == 0)) xs ≡ length (set_from k xs)
@@ -105,7 +107,8 @@ set_count k (x ∷ xs) =
     sum_by-cons (λ a. cond (not (a == 0)) 1 0) x xs
     ∙ elim (x == 0) as (λ b. cond (not b) 1 0 + count_by (λ a. not (a == 0)) xs
     ≡ length (cond b (set_from (k + 1) xs) ((k, x) ∷ set_from (k + 1) xs))) [
-      | true ↦ (let none : 0 + count_by (λ a. not (a == 0)) xs ≡ count_by (λ a. not (a == 0)) xs = omega arith in none ∙ set_count (k + 1) xs)
+      | true ↦ (let none : 0 + count_by (λ a. not (a == 0)) xs ≡ count_by (λ a. not (a == 0)) xs = omega arith in none
+          ∙ set_count (k + 1) xs)
       | false ↦ (let more = set_count (k + 1) xs in omega (arith, more))
     ]
 
@@ -131,7 +134,8 @@ put_page_next m k address flags bytes old mid new l entry aligned is h more =
     let last : get_or pages k (0, 0, []) ≡ (address, flags, bytes) =
     get_or-map shown (entries m.perm) k (0, 0) (0, 0, []) inside ∙ ap shown here ∙ page in
     put_as (flat_map page_value (take k pages) ++ page_value (address, flags, bytes)) (flat_map page_value (take (k + 1) pages)) old new
-    (sym (ap (flat_map page_value) (take_more pages k (0, 0, []) there) ∙ flat_map-append page_value (take k pages) (get_or pages k (0, 0, []) ∷ [])
+    (sym (ap (flat_map page_value) (take_more pages k (0, 0, []) there)
+    ∙ flat_map-append page_value (take k pages) (get_or pages k (0, 0, []) ∷ [])
     ∙ ap (λ l. flat_map page_value (take k pages) ++ l) (append-nil (page_value (get_or pages k (0, 0, []))) ∙ ap page_value last)))
     (put_more (flat_map page_value (take k pages)) (page_value (address, flags, bytes)) old mid new h more)
   where

@@ -32,7 +32,8 @@ rows_read (suc n) bytes (x ∷ xs) e l small h =
     rows_read n (drop 8 bytes) xs (omega (arith, e)) (length-drop 8 bytes ∙ omega (arith, l))
     (λ k. subst (λ (b : ℕ). b < 256) (sym (get_or-drop 8 bytes k 0)) (small (8 + k)))
     (λ k m. h (suc k) (omega (arith, m))
-    ∙ ap (little_number 8) (let place : 8 * suc k ≡ 8 + 8 * k = omega arith in ap (λ i. drop i bytes) place ∙ sym (drop-drop (8 * k) 8 bytes))) in
+    ∙ ap (little_number 8) (let place : 8 * suc k ≡ 8 + 8 * k = omega arith in ap (λ i. drop i bytes) place
+    ∙ sym (drop-drop (8 * k) 8 bytes))) in
     λ i. first i ∷ rest i
 
 -- PC, SP and the others

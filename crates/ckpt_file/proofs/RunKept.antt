@@ -165,7 +165,8 @@ saved_mask Two depth vl svl sp first (Some frame) e =
     let expected : Expected = record { version = Two; depth = depth; vl = vl; svl = svl } in
     let well : (nat_lt 0 depth && is_frame expected frame) ≡ true = no_stop (nat_lt 0 depth && is_frame expected frame) sp e in
     let head : is_head expected frame ≡ true =
-    and_first (is_head expected frame) (is_zero_past (saved_length frame) (body_of Two frame)) (and_second (nat_lt 0 depth) (is_frame expected frame) well) in
+    and_first (is_head expected frame) (is_zero_past (saved_length frame) (body_of Two frame))
+    (and_second (nat_lt 0 depth) (is_frame expected frame) well) in
     let nested : is_nested depth frame ≡ true =
     and_second ((number_at frame 0 8 == frame_tag Two) && has_modes frame && has_sizes expected frame && nat_le 1 (saved_signal frame)
     && nat_le (saved_signal frame) 62) (is_nested depth frame) head in
@@ -174,8 +175,10 @@ saved_mask Two depth vl svl sp first (Some frame) e =
     (and_first ((number_at frame 320 8 % 2 == 0) && nat_lt (number_at frame 320 8) (2 ^ 63) && nat_lt (number_at frame 328 4) depth)
     (number_at frame 332 4 == 0) nested) in
     record {
-      even = equal (number_at frame 320 8 % 2) 0 (and_first (number_at frame 320 8 % 2 == 0) (nat_lt (number_at frame 320 8) (2 ^ 63)) both);
-      low = below (number_at frame 320 8) (2 ^ 63) (and_second (number_at frame 320 8 % 2 == 0) (nat_lt (number_at frame 320 8) (2 ^ 63)) both);
+      even = equal (number_at frame 320 8 % 2) 0
+          (and_first (number_at frame 320 8 % 2 == 0) (nat_lt (number_at frame 320 8) (2 ^ 63)) both);
+      low = below (number_at frame 320 8) (2 ^ 63)
+          (and_second (number_at frame 320 8 % 2 == 0) (nat_lt (number_at frame 320 8) (2 ^ 63)) both);
     }
   where
     no_stop : (b : Bool) (a : ℕ) → (if b then None else Some a) ≡ None → b ≡ true
@@ -287,7 +290,8 @@ written_pages : (m : AddressSpace) (addresses : List ℕ) (stored : Option (List
 written_pages m addresses None = refl
 written_pages m addresses (Some bytes) = refl
 
-data_pages : (it : Insn) (access : Option DataAccess) (s : ProcessorState) → (after_data it access s.scalars s.memory).memory.perm ≡ s.memory.perm
+data_pages : (it : Insn) (access : Option DataAccess) (s : ProcessorState)
+    → (after_data it access s.scalars s.memory).memory.perm ≡ s.memory.perm
 data_pages it None s = refl
 data_pages it (Some access) s = written_pages s.memory access.bytes _
 
@@ -419,7 +423,8 @@ reach_keeps : (config : Config) (thread : ℕ) (begun : State) (done : ℕ) (jou
 unfolding reach_from
 reach_keeps config thread begun done journal zero = kept_by begun begun refl refl (λ h. h)
 reach_keeps config thread begun done journal (suc turns) =
-    turned_keeps config thread begun (reach_from config thread begun done journal turns) (reach_keeps config thread begun done journal turns)
+    turned_keeps config thread begun (reach_from config thread begun done journal turns)
+    (reach_keeps config thread begun done journal turns)
 
 start_of_signals : (program : Program) (config : Config) (thread : ℕ) → IsOfSignals (start_state program config thread)
 unfolding start_state
@@ -430,18 +435,22 @@ start_of_signals program config thread = record {
 
 -- where a thread is after some turns from its start, it has the pages of its start, and its mask and handlers are
 -- of signals
-pub run_pages : (program : Program) (config : Config) (thread : ℕ) (journal : List Event) (turns : ℕ) (s : State) (done : ℕ) (left : List Event)
+pub run_pages : (program : Program) (config : Config) (thread : ℕ) (journal : List Event) (turns : ℕ) (s : State) (done : ℕ)
+    (left : List Event)
     → reach program config thread journal turns ≡ At s done left → s.core.memory.perm ≡ (start_state program config thread).core.memory.perm
 unfolding reach
 run_pages program config thread journal turns s done left e =
     let kept : IsKept (start_state program config thread) s =
-    subst (ReachKeeps (start_state program config thread)) e (reach_keeps config thread (start_state program config thread) 0 journal turns) in
+    subst (ReachKeeps (start_state program config thread)) e
+    (reach_keeps config thread (start_state program config thread) 0 journal turns) in
     kept.pages
 
-pub run_signals : (program : Program) (config : Config) (thread : ℕ) (journal : List Event) (turns : ℕ) (s : State) (done : ℕ) (left : List Event)
+pub run_signals : (program : Program) (config : Config) (thread : ℕ) (journal : List Event) (turns : ℕ) (s : State) (done : ℕ)
+    (left : List Event)
     → reach program config thread journal turns ≡ At s done left → IsOfSignals s
 unfolding reach
 run_signals program config thread journal turns s done left e =
     let kept : IsKept (start_state program config thread) s =
-    subst (ReachKeeps (start_state program config thread)) e (reach_keeps config thread (start_state program config thread) 0 journal turns) in
+    subst (ReachKeeps (start_state program config thread)) e
+    (reach_keeps config thread (start_state program config thread) 0 journal turns) in
     kept.signals (start_of_signals program config thread)

@@ -40,7 +40,8 @@ pages_in m = map (λ e. (4096 * e.0, e.1, bytes_from m.mem (4096 * e.0) 4096)) (
 unfoldable pub state_values : State → List (List ℕ)
 state_values s =
     register_values s.core.scalars
-    ++ (system_values (nzcv_of s.core.scalars) (svcr_of s.core) s.core.tpidr s.core.tpidr2 s.held s.mask s.polled
+    ++ (system_values (nzcv_of s.core.scalars) (svcr_of s.core) s.core.tpidr s.core.tpidr2 s.held s.mask
+    s.polled
     ++ (vector_values s.core.bank.registers
     ++ (array_values s.core.za_on s.core.bank.za
     ++ (handler_values (entries s.handlers)
@@ -78,5 +79,6 @@ pub record HasWidths (options : Numbers) (s : State) (number used : ℕ) : Type 
 -- table says
 pub record ReadsCheckpoint (bytes : List ℕ) (report : Report) (s : State) (thread events : ℕ) : Type 0 where
   pub file : bytes ≡ checkpoint report.image report.options s thread events
-  pub fields : IsFilled (checkpoint_table report) (checkpoint_values report.image report.options s thread events)
+  pub fields :
+      IsFilled (checkpoint_table report) (checkpoint_values report.image report.options s thread events)
   pub widths : HasWidths report.options s thread events

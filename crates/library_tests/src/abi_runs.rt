@@ -1,4 +1,5 @@
-//! The checker of the lazy saving rules: what it tells of runs whose counts and places are worked out by hand.
+//! The checker of the lazy saving rules: what it tells of runs whose counts and places are worked out by
+//! hand.
 use abi_checker::{Abi, AbiKind, check_abi};
 use asm_core::assemble;
 use elf_loader::{load, write_elf};

@@ -23,7 +23,6 @@ fn two_workers_answer_at_once(rt: HostRuntime) {
     let vectors = read_vectors(alloc, LINES, vl, svl)
         .ok()
         .expect(&rt, "a file of vectors");
-    assert!(rt; vectors.len() <= 2_048);
     let gate = MeetingGate::new();
     let lines = run_vectors(&rt, alloc, vectors.as_slice(), vl, svl, 2, &gate)
         .ok()
@@ -56,7 +55,6 @@ fn the_third_line_is_at_fault(rt: HostRuntime) {
     let vectors = read_vectors(alloc, OTHERS, vl, svl)
         .ok()
         .expect(&rt, "a file of vectors");
-    assert!(rt; vectors.len() <= 2_048);
     let lines = run_vectors(&rt, alloc, vectors.as_slice(), vl, svl, 64, &OpenGate)
         .ok()
         .expect(&rt, "memory");
@@ -111,7 +109,6 @@ fn each_worker_with_lines_passes_once(rt: HostRuntime) {
     let vectors = read_vectors(alloc, FIVE, vl, svl)
         .ok()
         .expect(&rt, "a file of vectors");
-    assert!(rt; vectors.len() <= 2_048);
     let gate = PassGate {
         passes: four_zeros(),
         lines: four_zeros(),
@@ -134,7 +131,6 @@ fn any_number_of_workers_gives_the_same_lines(rt: HostRuntime) {
         .ok()
         .expect(&rt, "a file of vectors");
     for workers in [1, 2, 64] {
-        assert!(rt; vectors.len() <= 2_048);
         let lines = run_vectors(&rt, alloc, vectors.as_slice(), vl, svl, workers, &OpenGate)
             .ok()
             .expect(&rt, "memory");

@@ -1,7 +1,7 @@
-//! Tests of the libraries by their public calls, of what no line of data reaches: banks, and which thread owns
-//! that of a core, memory, vectors, the runs of one thread and the files of their states, the lines of stops,
-//! the shared words, host threads that reach them at once, guest threads on several cores, instruction vectors
-//! by two workers at once, the object of a source, lazy saving of ZA, and the checker of its rules.
+//! Tests of the libraries by their public calls, of what no line of data reaches: banks, and which thread
+//! owns that of a core, memory, vectors, the runs of one thread and the files of their states, the lines of
+//! stops, the shared words, host threads that reach them at once, guest threads on several cores, instruction
+//! vectors by two workers at once, the object of a source, lazy saving of ZA, and the checker of its rules.
 #![tactic(auto)]
 
 #[cfg(test)]

@@ -167,7 +167,8 @@ short_fault : (text : List ℕ) (fault : Fault) → length text ≤ 1073741824 �
 short_fault text fault size is = outcome_fault (report_lines (all_lines text)) fault (sym (short_is text size) ∙ is)
 
 -- the fault is behind the start of the file
-fault_later : (read : Result (Report × Left) Fault) (fault : Fault) (left : Left) → IsLater left read → read ≡ Err fault → left.line < fault.line
+fault_later : (read : Result (Report × Left) Fault) (fault : Fault) (left : Left) → IsLater left read → read ≡ Err fault
+    → left.line < fault.line
 fault_later read fault left later is = subst (λ r. IsLater left r) is later
 
 same_fault : (n : ℕ) (read other : Result (Report × Left) Fault) (fault : Fault) → IsSame n read other → read ≡ Err fault → fault.line ≤ n
@@ -175,12 +176,14 @@ same_fault : (n : ℕ) (read other : Result (Report × Left) Fault) (fault : Fau
 same_fault n read other fault same is = subst (λ r. IsSame n r other) is same
 
 -- files that begin with the lines up to the fault have it
-whole_fault : (text other : List ℕ) (fault : Fault) → length text ≤ 1073741824 → report_in text ≡ Err fault → BeginsAlike fault.line text other
+whole_fault : (text other : List ℕ) (fault : Fault) → length text ≤ 1073741824 → report_in text ≡ Err fault
+    → BeginsAlike fault.line text other
     → report_in other ≡ Err fault
 whole_fault text other fault size is alike =
     let same = by_report.same fault.line fault.line (all_lines text) (lines_of other) (omega arith)
     (alike_lines fault.line (lines_of text) (lines_of other) alike.lines) in
-    let it = same_fault fault.line (report_lines (all_lines text)) (report_lines (all_lines other)) fault same (short_fault text fault size is)
+    let it = same_fault fault.line (report_lines (all_lines text)) (report_lines (all_lines other)) fault same
+    (short_fault text fault size is)
     (omega arith) in
     short_is other alike.size ∙ ap outcome it
 

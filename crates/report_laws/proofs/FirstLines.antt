@@ -171,7 +171,8 @@ by_line_by part is = by_taken part (λ text. said_if (is text))
 abbrev maybe_read : (List ℕ → Bool) → ℕ → ℕ → List (List ℕ) → Result (Unit {0} × Left) Fault
 maybe_read is line place lines = Ok (tt, cond (is (first_of lines)) (past_first line place lines) (from_line line place lines))
 
-later_maybe : (is : List ℕ → Bool) (line place : ℕ) (lines : List (List ℕ)) → IsLater (from_line line place lines) (maybe_read is line place lines)
+later_maybe : (is : List ℕ → Bool) (line place : ℕ) (lines : List (List ℕ))
+    → IsLater (from_line line place lines) (maybe_read is line place lines)
 later_maybe is line place lines =
     elim (is (first_of lines)) as (λ b. line ≤ (cond b (past_first line place lines) (from_line line place lines)).line) [
       | true ↦ later_past line place lines
@@ -209,7 +210,8 @@ later_all : (is : List ℕ → Bool) (line place : ℕ) (lines : List (List ℕ)
 later_all is line place [] = omega arith
 later_all is line place (text ∷ lines) =
     let more = later_all is (line + 1) (place + length text) lines in
-    elim (is text) as (λ b. line ≤ (cond b (past_first_all is (line + 1) (place + length text) lines) (from_line line place (text ∷ lines))).line) [
+    elim (is text) as (λ b. line ≤ (cond b (past_first_all is (line + 1) (place + length text) lines)
+    (from_line line place (text ∷ lines))).line) [
       | true ↦ omega (arith, more)
       | false ↦ omega arith
     ]
@@ -286,7 +288,8 @@ nothing_same part n (suc m) line place [] [] reach before alike = same_self n (n
 nothing_same part n (suc m) line place [] (other ∷ others) reach before alike = absurd alike
 nothing_same part n (suc m) line place (text ∷ lines) [] reach before alike = absurd alike
 nothing_same part n (suc m) line place (text ∷ lines) (other ∷ others) reach before alike =
-    subst (λ t. IsSame n (nothing NotText part (from_line line place (text ∷ lines))) (nothing NotText part (from_line line place (t ∷ others))))
+    subst (λ t. IsSame n (nothing NotText part (from_line line place (text ∷ lines)))
+    (nothing NotText part (from_line line place (t ∷ others))))
     alike.0 (λ at. refl)
 
 later_nothing : (part : ReportKind) (line place : ℕ) (lines : List (List ℕ))

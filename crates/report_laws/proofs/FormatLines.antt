@@ -80,7 +80,13 @@ form_named : (text name : List ℕ) (fields : List FieldKind) (words : List (Lis
 unfolding has_form
 form_named text name fields [] are e = cc
 form_named text name fields (word ∷ words) are e =
-    record { word = word; words = words; are = are; is = same_word word name (and_parts (bytes_eq word name) (are_fields fields words) e).0 }
+    record {
+      word = word;
+      words = words;
+      are = are;
+      is = same_word word name
+          (and_parts (bytes_eq word name) (are_fields fields words) e).0;
+    }
 
 kind_named : (kind : LineKind) (text : List ℕ) → is_line kind text ≡ true → HasName text (name_of kind)
 unfolding is_line
@@ -108,7 +114,8 @@ number_named : (name text : List ℕ) (n : ℕ) → number_line name text ≡ So
 unfolding number_line said_by
 number_named name text n e = named_words text name _ n (words_of text) refl e
 
-pub setting_named : (name : List ℕ) (bound : ℕ) (text : List ℕ) (setting : Setting) → setting_line name bound text ≡ Some setting → HasName text name
+pub setting_named : (name : List ℕ) (bound : ℕ) (text : List ℕ) (setting : Setting) → setting_line name bound text ≡ Some setting
+    → HasName text name
 unfolding setting_line said_by
 setting_named name bound text setting e = named_words text name _ setting (words_of text) refl e
 
@@ -121,7 +128,8 @@ other_words {A} text name other next it differ =
     (fields.and_then (option_map (λ (u : Unit {0}). (u, it.words)) (cond b (Some tt) None)) next))
     (ap (λ w. bytes_eq w other) it.is ∙ differ)
 
-pub other_setting : (text name other : List ℕ) (bound : ℕ) → HasName text name → bytes_eq name other ≡ false → setting_line other bound text ≡ None
+pub other_setting : (text name other : List ℕ) (bound : ℕ) → HasName text name → bytes_eq name other ≡ false
+    → setting_line other bound text ≡ None
 unfolding setting_line said_by
 other_setting text name other bound it differ = other_words text name other _ it differ
 
@@ -143,7 +151,8 @@ pub number_none : (kinds : List LineKind) (text name : List ℕ) (n : ℕ) → n
 number_none kinds text name n e foreign = foreign_none kinds text name (number_named name text n e) foreign
 
 -- so the line behind lines of later kinds is of no earlier one
-unlike_first : (kind other : LineKind) (own others rest : List (List ℕ)) → AllOfKind other own → bytes_eq (name_of other) (name_of kind) ≡ false
+unlike_first : (kind other : LineKind) (own others rest : List (List ℕ)) → AllOfKind other own
+    → bytes_eq (name_of other) (name_of kind) ≡ false
     → is_line kind (first_of (others ++ rest)) ≡ false → is_line kind (first_of ((own ++ others) ++ rest)) ≡ false
 unlike_first kind other [] others rest all differ unlike = unlike
 unlike_first kind other (text ∷ own) others rest all differ unlike =
@@ -177,7 +186,8 @@ all_passed kind line place (text ∷ own) rest all unlike =
     ∙ same_place tt (line + 1 + length own) (line + suc (length own)) (place + length text + bytes_in own)
     (place + (length text + bytes_in own)) rest (omega arith) (omega arith)
 
-together_read : (often : Often) (kind : LineKind) (line place : ℕ) (own rest : List (List ℕ)) → IsOften often (length own) → AllOfKind kind own
+together_read : (often : Often) (kind : LineKind) (line place : ℕ) (own rest : List (List ℕ)) → IsOften often (length own)
+    → AllOfKind kind own
     → is_line kind (first_of rest) ≡ false
     → together often kind (from_line line place (own ++ rest)) ≡ Ok (tt, behind line place own rest)
 unfolding past_line past_all
@@ -187,7 +197,8 @@ together_read Once kind line place (text ∷ []) rest many all unlike =
     ∙ same_place tt (line + 1) (line + 1) (place + length text) (place + (length text + 0)) rest refl (omega arith)
 together_read Once kind line place (text ∷ other ∷ own) rest many all unlike = absurd (omega (arith, many))
 together_read AtMostOnce kind line place [] rest many all unlike =
-    ap (λ b. let it : Result (Unit {0} × Left) Fault = Ok (tt, cond b (past_first line place rest) (from_line line place rest)) in it) unlike
+    ap (λ b. let it : Result (Unit {0} × Left) Fault = Ok
+    (tt, cond b (past_first line place rest) (from_line line place rest)) in it) unlike
     ∙ same_place tt line (line + 0) place (place + 0) rest (omega arith) (omega arith)
 together_read AtMostOnce kind line place (text ∷ []) rest many all unlike =
     ap (λ b. let it : Result (Unit {0} × Left) Fault = Ok (

@@ -35,7 +35,8 @@ unfolding spec.head
 head_read thread n place heading stopping counting rest stop count h s c =
     let a = line_read part.Block (λ text. said_if (is_thread thread text)) n place heading (stopping ∷ counting ∷ rest) tt (ap said_if h) in
     let b = line_read part.Block stop_line (n + 1) (place + length heading) stopping (counting ∷ rest) stop s in
-    let d = line_read part.Block (number_line (codes "count")) (n + 1 + 1) (place + length heading + length stopping) counting rest count c in
+    let d = line_read part.Block (number_line (codes "count")) (n + 1 + 1)
+    (place + length heading + length stopping) counting rest count c in
     then_read _ _ tt _ _ a (then_read _ _ stop _ _ b (then_read _ _ count _ _ d
     (same_place (record { stop = stop; count = count }) (n + 1 + 1 + 1) (n + 3) (place + length heading + length stopping + length counting)
     (place + (length heading + (length stopping + (length counting + 0)))) rest (omega arith) (omega arith))))
@@ -63,7 +64,8 @@ journal_read n place listing events ending rest journal is are end =
     let b = each_read part.Journal event_line 0 (n + 1) (place + length listing) events (ending ∷ rest) journal are in
     let c = line_by_read spec.part_at_end is_last line2 place2 ending rest (ap is_last end) in
     then_read _ _ (length journal) _ _ a
-    (lines_then (each (λ k. line part.Journal event_line) (length journal) 0) _ (n + 1) (place + length listing) events (ending ∷ []) rest journal _ b
+    (lines_then (each (λ k. line part.Journal event_line) (length journal) 0) _ (n + 1) (place + length listing) events
+    (ending ∷ []) rest journal _ b
     (then_read _ _ tt _ _ c (same_place journal (line2 + 1) (n + suc (length (events ++ ending ∷ []))) (place2 + length ending)
     (place + (length listing + bytes_in (events ++ ending ∷ []))) rest (omega (arith, length-append events (ending ∷ [])))
     (omega (arith, bytes-append events (ending ∷ []))))))
@@ -76,7 +78,8 @@ same_block : (it : Block) (s e f s' e' f' : ℕ) → s ≡ s' → e ≡ e' → f
 same_block it s e f s' e' f' one two three =
     ap (λ n. moved it n e f) one ∙ ap (λ n. moved it s' n f) two ∙ ap (λ n. moved it s' e' n) three
 
-block_at : (version : Version) (thread n place : ℕ) (before own rest : List (List ℕ)) (it : Block) (is : IsBlock version thread before own it)
+block_at : (version : Version) (thread n place : ℕ) (before own rest : List (List ℕ)) (it : Block)
+    (is : IsBlock version thread before own it)
     → n ≡ length before → place ≡ bytes_in before
     → block version thread (from_line n place (own ++ rest)) ≡ Ok (it, behind n place own rest)
 unfolding block moved
@@ -96,7 +99,8 @@ block_at version thread n place before own rest it is same_line same_bytes =
     omega (arith, length-append is.state more, length-append is.output tail) in
     let bytes : p4 ≡ place + bytes_in (top ++ (is.state ++ more)) =
     omega (arith, bytes-append is.state more, bytes-append is.output tail) in
-    let a = head_read thread n place is.heading is.stopping is.counting ((is.state ++ more) ++ rest) it.stop it.count is.is_heading is.is_stop
+    let a = head_read thread n place is.heading is.stopping is.counting
+    ((is.state ++ more) ++ rest) it.stop it.count is.is_heading is.is_stop
     is.is_count in
     let b = kinds_read (state_lines version) n1 p1 is.state (more ++ rest) (lines_apart version) is.are_state
     (number_none (state_lines version) is.sizing (codes "output") is.size is.is_size (lines_foreign version)) in
@@ -107,14 +111,16 @@ block_at version thread n place before own rest it is same_line same_bytes =
     same_block it place p4 (n + 1) it.start it.end it.first_line (same_bytes ∙ sym is.start) end
     (ap (λ k. k + 1) same_line ∙ sym is.first_line) in
     subst (λ ls. block version thread (from_line n place (ls ++ rest)) ≡ Ok (it, behind n place ls rest)) (sym is.whole)
-    (then_read (spec.head thread (from_line n place ((top ++ (is.state ++ more)) ++ rest))) _ (record { stop = it.stop; count = it.count }) _ _ a
+    (then_read (spec.head thread (from_line n place ((top ++ (is.state ++ more)) ++ rest))) _
+    (record { stop = it.stop; count = it.count }) _ _ a
     (lines_then (lines_of_kinds (state_lines version)) _ n1 p1 is.state more rest tt _ b
     (lines_then spec.output _ n2 p2 (is.sizing ∷ is.output) tail rest tt _ c
     (then_read _ _ it.journal _ _ d
     (ap (λ x. read_to x n4 p4 rest) same
     ∙ same_place it n4 (n + length (top ++ (is.state ++ more))) p4 (place + bytes_in (top ++ (is.state ++ more))) rest lines bytes)))))
 
-blocks_at : (version : Version) (k n place : ℕ) (before own rest : List (List ℕ)) (blocks : List Block) → AreBlocks version k before own blocks
+blocks_at : (version : Version) (k n place : ℕ) (before own rest : List (List ℕ)) (blocks : List Block)
+    → AreBlocks version k before own blocks
     → n ≡ length before → place ≡ bytes_in before
     → each (block version) (length blocks) k (from_line n place (own ++ rest)) ≡ Ok (blocks, behind n place own rest)
 unfolding each
@@ -127,12 +133,15 @@ blocks_at version k n place before own rest (it ∷ blocks) are same_line same_b
     let n1 = n + length first in
     let p1 = place + bytes_in first in
     let a = block_at version k n place before first (others ++ rest) it are.3 same_line same_bytes in
-    let b = blocks_at version (k + 1) n1 p1 (before ++ first) others rest blocks are.4 (omega (arith, same_line, length-append before first))
+    let b = blocks_at version (k + 1) n1 p1 (before ++ first) others rest blocks are.4
+    (omega (arith, same_line, length-append before first))
     (omega (arith, same_bytes, bytes-append before first)) in
-    subst (λ ls. each (block version) (suc (length blocks)) k (from_line n place (ls ++ rest)) ≡ Ok (it ∷ blocks, behind n place ls rest)) (sym are.2)
+    subst (λ ls. each (block version) (suc (length blocks)) k (from_line n place (ls ++ rest)) ≡ Ok (it ∷ blocks, behind n place ls rest))
+    (sym are.2)
     (lines_then (block version k) _ n place first others rest it _ a
     (then_read _ _ blocks _ _ b
-    (same_place (it ∷ blocks) (n1 + length others) (n + length (first ++ others)) (p1 + bytes_in others) (place + bytes_in (first ++ others)) rest
+    (same_place (it ∷ blocks) (n1 + length others) (n + length (first ++ others)) (p1 + bytes_in others)
+    (place + bytes_in (first ++ others)) rest
     (omega (arith, length-append first others)) (omega (arith, bytes-append first others)))))
 
 -- ---- the words
@@ -182,7 +191,8 @@ shared_at n place heading shared pending ending rest words head ws ps end =
     let named = end_named ending end in
     let a = line_read part.Shared (λ text. said_if (is_shared text)) n place heading ((shared ++ last) ++ rest) tt
     (ap (λ t. said_if (is_shared t)) head) in
-    let b = words_at (codes "w") 512 n1 p1 shared (last ++ rest) words.shared ws (after_words pending ending rest ps.settings ps.each named) in
+    let b = words_at (codes "w") 512 n1 p1 shared (last ++ rest) words.shared ws
+    (after_words pending ending rest ps.settings ps.each named) in
     let c = words_at (codes "pending") 32 n2 p2 pending (ending ∷ rest) words.pending ps
     (other_setting ending (codes "end") (codes "pending") 32 named refl) in
     let d = line_by_read part_at_end is_end n3 p3 ending rest (ap is_end end) in
@@ -190,13 +200,15 @@ shared_at n place heading shared pending ending rest words head ws ps end =
     (lines_then (word_lines (codes "w") (replicate 512 0)) _ n1 p1 shared last rest words.shared _ b
     (lines_then (word_lines (codes "pending") (replicate 32 0)) _ n2 p2 pending (ending ∷ []) rest words.pending _ c
     (then_read _ _ tt _ _ d
-    (same_place words (n3 + 1) (n + suc (length (shared ++ last))) (p3 + length ending) (place + (length heading + bytes_in (shared ++ last))) rest
+    (same_place words (n3 + 1) (n + suc (length (shared ++ last))) (p3 + length ending)
+    (place + (length heading + bytes_in (shared ++ last))) rest
     (omega (arith, length-append shared last, length-append pending (ending ∷ [])))
     (omega (arith, bytes-append shared last, bytes-append pending (ending ∷ [])))))))
 
 -- ---- the whole
 
-whole_read : (lines : List (List ℕ)) (it : Report) (is : AreReport lines it) → report_lines (from_line 0 0 lines) ≡ Ok (it, behind 0 0 lines [])
+whole_read : (lines : List (List ℕ)) (it : Report) (is : AreReport lines it)
+    → report_lines (from_line 0 0 lines) ≡ Ok (it, behind 0 0 lines [])
 unfolding report_lines
 whole_read lines it is =
     let last = is.heading ∷ (is.shared ++ (is.pending ++ is.ending ∷ [])) in
@@ -211,7 +223,8 @@ whole_read lines it is =
     let b = line_read part.Options (options_line is.version) 1 (0 + length is.first) is.options (is.image ∷ (is.blocks ++ last)) it.options
     is.are_options in
     let c = line_read part.Image image_line 2 (0 + length is.first + length is.options) is.image (is.blocks ++ last) it.image is.is_image in
-    let d : each (block is.version) it.options.threads 0 (from_line n1 p1 (is.blocks ++ last)) ≡ Ok (it.blocks, behind n1 p1 is.blocks last) =
+    let d : each (block is.version) it.options.threads 0 (from_line n1 p1 (is.blocks ++ last))
+    ≡ Ok (it.blocks, behind n1 p1 is.blocks last) =
     subst (λ m. each (block is.version) m 0 (from_line n1 p1 (is.blocks ++ last)) ≡ Ok (it.blocks, behind n1 p1 is.blocks last)) is.one_each
     (blocks_at is.version 0 n1 p1 top is.blocks last it.blocks is.are_blocks refl (omega arith)) in
     let e : shared_words (from_line n2 p2 last) ≡ Ok (it.words, from_line n3 p3 []) =

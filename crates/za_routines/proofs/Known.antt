@@ -56,7 +56,8 @@ disable_known config s turns can whole h =
     }
 
 tail_runs : (vl : ℕ) (p : Places) (r : ProcessorState) (bytes : List ℕ) → IsBack p r bytes → IsWhole r → (on : Bool)
-    → r.za_on ≡ on → IsHalf on r.tpidr2 (x_of r.scalars 19) → Reaches vl (instructions_past on bytes) r (λ t. IsPast p r t × IsArrayBack on r t bytes)
+    → r.za_on ≡ on → IsHalf on r.tpidr2 (x_of r.scalars 19) → Reaches vl (instructions_past on bytes) r
+    (λ t. IsPast p r t × IsArrayBack on r t bytes)
 tail_runs vl p r bytes back whole true on half = kept vl p r bytes back whole on half
 tail_runs vl p r bytes back whole false off half = saved vl p r bytes back whole off half
 

@@ -83,7 +83,8 @@ private_below a n low some =
 -- ---- two runs
 
 -- the distances from the one's start to the other's, going round at 2 ^ 64, are not below their lengths
-pub apart_if : (a n b k : ℕ) → a < 2 ^ 64 → b < 2 ^ 64 → n ≤ (b + (2 ^ 64 - a)) % 2 ^ 64 → k ≤ (a + (2 ^ 64 - b)) % 2 ^ 64 → AreApart a n b k
+pub apart_if : (a n b k : ℕ) → a < 2 ^ 64 → b < 2 ^ 64 → n ≤ (b + (2 ^ 64 - a)) % 2 ^ 64 → k ≤ (a + (2 ^ 64 - b)) % 2 ^ 64
+    → AreApart a n b k
 apart_if a n b k la lb ln lk i j li lj e = omega (arith, la, lb, ln, lk, li, lj, e)
 
 pub apart_none : (a n b k : ℕ) → (n ≡ 0) ⊎ (k ≡ 0) → AreApart a n b k

@@ -1,5 +1,5 @@
--- Turns of a thread in which nothing but its instructions is due, and what they come to where its next word is
--- that of a routine or a tail.
+-- Turns of a thread in which nothing but its instructions is due, and what they come to where its next word
+-- is that of a routine or a tail.
 -- Source: the kernel is this emulator's own.
 use Rattle.std.specs.Prelude.{◌≡◌, ℕ, ◌+◌, ◌%◌, ◌<◌, ◌≤◌, ◌==◌, Bool, true, false, List, Option, Some, IsSome}
 use Rattle.scalar_exec.specs.Registers.{x_of}
@@ -57,8 +57,10 @@ CanDisable config s = (places : Places) × CanDisableAt places config s
 -- what it comes to, wherever the other words stand
 abbrev pub Disables : Config → State → State → ℕ → Type 0
 Disables config s t turns =
-    (places : Places) (dormant : IsDormantAt places s.core s.core.tpidr2) → s.core.scalars.pc ≡ places.disable
-    → (turns ≡ disable_length dormant.bytes) × IsDisabled s.core t.core dormant.bytes × IsAfter config turns s t
+    (places : Places) (dormant : IsDormantAt places s.core s.core.tpidr2)
+    → s.core.scalars.pc ≡ places.disable
+    → (turns ≡ disable_length dormant.bytes) × IsDisabled s.core t.core dormant.bytes
+    × IsAfter config turns s t
 
 abbrev pub DisablesInPart : Config → State → State → Type 0
 DisablesInPart config s t =

@@ -1,5 +1,5 @@
--- How a thread comes from one of its own instructions to the next: by polls of the pending signals, and by runs
--- of handlers over an area of memory.
+-- How a thread comes from one of its own instructions to the next: by polls of the pending signals, and by
+-- runs of handlers over an area of memory.
 -- Source: the kernel is this emulator's own.
 use Rattle.std.specs.Prelude.{◌≡◌, ◌≢◌, ℕ, suc, Bool, true, false, List, [], ◌∷◌}
 use Rattle.sm_types.specs.declared.config.Config.{Config}

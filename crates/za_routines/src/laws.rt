@@ -12,11 +12,11 @@ ghost use Rattle.za_routines.specs.Ways.{Place, Step, AreSteps, own_instructions
 use kernel_contexts::handlers_bring_back;
 use lazy_saving::{arrays_come_back, disable_saves_over_changes};
 
-/// `__arm_za_disable` saves a dormant ZA, and after every lawful callee the tail gives the caller its ZA back,
-/// in a thread in which any number of polls are made and handlers run between their instructions, others in
-/// these too, over an area that has the block, the buffer and the words. `disable` and `returns` say so of as
-/// many instructions of the thread's own as the words take; with fewer, the next one is executed (`disabling`,
-/// `returning`).
+/// `__arm_za_disable` saves a dormant ZA, and after every lawful callee the tail gives the caller its ZA
+/// back, in a thread in which any number of polls are made and handlers run between their instructions,
+/// others in these too, over an area that has the block, the buffer and the words. `disable` and `returns`
+/// say so of as many instructions of the thread's own as the words take; with fewer, the next one is executed
+/// (`disabling`, `returning`).
 pub fn routines_run_with_handlers()
     ensures disable { (config : Config) (thread : ℕ) (area : ℕ → Bool) (p : Places) (steps : List Step)
         (from to : Place) (b : ℕ) (d : IsDormantAt p from.state.core b) → IsWhole from.state.core

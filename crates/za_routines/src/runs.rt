@@ -14,7 +14,8 @@ use sm_types::Memory;
 
 /// Runs `__arm_za_disable` of a thread that stands at its first word with its ZA dormant, as `can_disable`
 /// tells, and gives the number of its instructions. `Memory` is want of memory, for a page of the buffer or
-/// for a place in the journal's list, which each turn takes before all else; fewer instructions are made then.
+/// for a place in the journal's list, which each turn takes before all else; fewer instructions are made
+/// then.
 pub fn run_disable<P: Port>(
     context: &mut Context,
     port: &mut P,

@@ -34,11 +34,14 @@ returns c = λ report beyond.
     let config = config_of context in
     let g = context.guest in
     let events : ℕ = length (journal_of context) in
-    let run : IsRunOf (image_of context) config (thread_of context) (journal_of context) s (stop_of context) = context.is_run c.requires.home in
+    let run : IsRunOf (image_of context) config (thread_of context) (journal_of context) s (stop_of context) =
+    context.is_run c.requires.home in
     let stands : reach (image_of context) config (thread_of context) (journal_of context) s.turns ≡ At s events [] =
     subst (λ stop. IsRunOf (image_of context) config (thread_of context) (journal_of context) s stop) c.requires.runs run in
-    let signals : IsOfSignals s = run_signals (image_of context) config (thread_of context) (journal_of context) s.turns s events [] stands in
-    let whole : IsWhole s.core.memory = subst (λ (m : Machine). IsWhole m.pages.memory) c.machine.ensures c.page_count-pages.ensures.whole in
+    let signals : IsOfSignals s = run_signals (image_of context) config (thread_of context)
+    (journal_of context) s.turns s events [] stands in
+    let whole : IsWhole s.core.memory =
+    subst (λ (m : Machine). IsWhole m.pages.memory) c.machine.ensures c.page_count-pages.ensures.whole in
     let few : len s.core.memory.perm ≤ 4096 =
     let value : c.page_count-pages.result ≡ len s.core.memory.perm =
     c.page_count-pages.ensures.value ∙ ap (λ (m : Machine). len m.pages.memory.perm) c.machine.ensures in
@@ -47,9 +50,11 @@ returns c = λ report beyond.
     pages_placed (image_of context) s.core.memory c.requires.image whole
     (run_pages (image_of context) config (thread_of context) (journal_of context) s.turns s events [] stands
     ∙ start_pages (image_of context) config (thread_of context)) in
-    let known : AreOfSignals (handlers_of c.handlers.result.now) = subst AreOfSignals (sym c.handlers.ensures.value) g.handlers_of_signals in
+    let known : AreOfSignals (handlers_of c.handlers.result.now) =
+    subst AreOfSignals (sym c.handlers.ensures.value) g.handlers_of_signals in
     let listed : AreListed s.handlers =
-    subst AreListed c.handlers.ensures.value (handlers_listed c.handlers.result.now c.handlers.ensures.count known c.addresses_fit.ensures) in
+    subst AreListed c.handlers.ensures.value
+    (handlers_listed c.handlers.result.now c.handlers.ensures.count known c.addresses_fit.ensures) in
     let within : IsWithin config (thread_of context) s.count events s.depth s.turns =
     record {
       number_within = g.number_within;
@@ -61,7 +66,8 @@ returns c = λ report beyond.
     let budget : config.budget < 2 ^ 32 = subst (λ (k : Config). k.budget < 2 ^ 32) c.config.ensures c.budget_fits.ensures in
     let good : IsInTable report s (thread_of context) events =
     record {
-      progress = progress_good report config (thread_of context) s.count events s.depth s.turns beyond.options within beyond.count beyond.events;
+      progress = progress_good report config
+          (thread_of context) s.count events s.depth s.turns beyond.options within beyond.count beyond.events;
       mask = ap (λ (o : Numbers). is_mask o.kernel s.mask) beyond.options
           ∙ mask_by config s.mask signals.mask.even signals.mask.low g.unmasked_at_first;
       handlers = listed.past;
@@ -78,7 +84,8 @@ returns c = λ report beyond.
       core = c.contexts_are_plain.ensures.range;
       array = long;
       memory = whole;
-      pages = all_of_each (λ (e : ℕ × ℕ). (e.0 < 2 ^ 52) × (e.1 < 2 ^ 8)) (entries s.core.memory.perm) (entries_narrow s.core.memory places);
+      pages = all_of_each (λ (e : ℕ × ℕ). (e.0 < 2 ^ 52) × (e.1 < 2 ^ 8)) (entries s.core.memory.perm)
+          (entries_narrow s.core.memory places);
       handlers = all_of_each IsNarrowEntry (entries s.handlers) listed.narrow;
       few_handlers = let most = listed.few in omega (arith, most);
       thread = let least = g.number_within in

@@ -19,14 +19,16 @@ returns-clause-sizes c =
     let same : length (map handler_entry c.in_ok-handlers_of.field-0.items) ≡ length (map handler_said f.handlers.items) =
     ap length c.in_ok-handlers_of.ensures.same ∙ ap (λ l. length (map handler_said l)) c.as_slice.ensures.value in
     record {
-      registers = ap length c.general_of.ensures.value ∙ length-drop 2 c.registers_of-registers.result ∙ omega (arith, c.general_of.ensures.count);
+      registers = ap length c.general_of.ensures.value ∙ length-drop 2 c.registers_of-registers.result
+          ∙ omega (arith, c.general_of.ensures.count);
       vectors = ap length c.in_ok-from_slice.ensures.items ∙ c.requires.vectors.z;
       predicates =
           let size : length c.in_ok-from_slice-2.field-0.items ≡ length f.vectors.predicates.now / 17 * 16 =
           ap length c.in_ok-from_slice-2.ensures.items ∙ c.split_at.ensures.front_len in
           omega (arith, size, c.requires.vectors.predicates);
       first_fault =
-          let size : length c.in_ok-from_slice-3.field-0.items ≡ length c.split_at.result.1.now = ap length c.in_ok-from_slice-3.ensures.items in
+          let size : length c.in_ok-from_slice-3.field-0.items ≡ length c.split_at.result.1.now =
+          ap length c.in_ok-from_slice-3.ensures.items in
           omega (arith, size, c.split_at.ensures.back_len, c.requires.vectors.predicates);
       array = ap length c.in_ok-from_slice-4.ensures.items ∙ c.requires.vectors.za;
       handlers = c.in_ok-handlers_of.ensures.narrow;
@@ -53,8 +55,10 @@ returns-clause-values c = λ digest.
     let n : ℕ = array_size o f.system.svcr in
     let preds : List ℕ = f.vectors.predicates.now in
     let middle : length preds / 17 * 16 ≡ 16 * q = omega (arith, c.requires.vectors.predicates) in
-    let registers : doublewords (slice_index c.registers_of-registers.result 0 ∷ slice_index c.registers_of-registers.result 1 ∷ c.general_of.result) ≡ rows 33 8 f.registers.now =
-    ap doublewords ((λ i. slice_index c.registers_of-registers.result 0 ∷ slice_index c.registers_of-registers.result 1 ∷ c.general_of.ensures.value i)
+    let registers : doublewords (slice_index c.registers_of-registers.result 0 ∷ slice_index c.registers_of-registers.result 1
+    ∷ c.general_of.result) ≡ rows 33 8 f.registers.now =
+    ap doublewords ((λ i. slice_index c.registers_of-registers.result 0 ∷ slice_index c.registers_of-registers.result 1
+    ∷ c.general_of.ensures.value i)
     ∙ three_parts c.registers_of-registers.result (omega (arith, c.general_of.ensures.count))) ∙ c.registers_of-registers.ensures in
     let p : c.in_ok-from_slice-2.field-0.items ≡ take (16 * q) preds =
     c.in_ok-from_slice-2.ensures.items ∙ c.split_at.ensures.front ∙ ap (λ k. take k preds) middle in

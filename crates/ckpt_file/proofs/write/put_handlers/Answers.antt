@@ -22,5 +22,7 @@ returns c =
     let count : c.handlers_set.result ≡ length (set_from 0 addresses) = c.handlers_set.ensures.value ∙ set_count 0 addresses in
     let before = words (c.handlers_set.result ∷ []) in
     let each = flat_map handler_value (set_from 0 (take c.loop-signal.signal addresses)) in
-    let same : before ++ each ≡ handler_values (set_from 0 addresses) = λ i. words (count i ∷ []) ++ flat_map handler_value (set_from 0 (all i)) in
-    put_as (before ++ each) (handler_values (set_from 0 addresses)) _ _ same (put_more before each _ _ _ c.in_ok-put_word.ensures c.loop-signal.invariant)
+    let same : before ++ each ≡ handler_values (set_from 0 addresses) =
+    λ i. words (count i ∷ []) ++ flat_map handler_value (set_from 0 (all i)) in
+    put_as (before ++ each) (handler_values (set_from 0 addresses)) _ _ same
+    (put_more before each _ _ _ c.in_ok-put_word.ensures c.loop-signal.invariant)

@@ -10,7 +10,9 @@ returns c =
     let context = c.args.context.now in
     let numbers = words (c.thread.result ∷ c.count.result ∷ c.events_made.result ∷ c.depth.result ∷ []) in
     let same : numbers ++ doublewords (c.turns.result ∷ [])
-    ≡ thread_values (thread_of context) (state_of context).count (length (journal_of context)) (state_of context).depth (state_of context).turns =
-    λ i. words (c.thread.ensures i ∷ c.count.ensures i ∷ c.events_made.ensures i ∷ c.depth.ensures i ∷ []) ++ doublewords (c.turns.ensures i ∷ []) in
+    ≡ thread_values (thread_of context) (state_of context).count (length (journal_of context)) (state_of context).depth
+    (state_of context).turns =
+    λ i. words (c.thread.ensures i ∷ c.count.ensures i ∷ c.events_made.ensures i ∷ c.depth.ensures i ∷ []) ++ doublewords
+    (c.turns.ensures i ∷ []) in
     put_as (numbers ++ doublewords (c.turns.result ∷ [])) _ _ _ same
     (put_more numbers (doublewords (c.turns.result ∷ [])) _ _ _ c.in_ok-put_words.ensures c.in_ok-put_doubleword.ensures)

@@ -26,15 +26,18 @@ returns c =
     let handlers = handler_values (set_from 0 c.handlers.result.now) in
     let output = output_values c.output.result.now in
     let pages = page_values (pages_in m.pages.memory) in
-    let same_registers : registers ≡ register_values s.core.scalars = ap (λ (k : Machine). register_values k.scalars) c.machine-machine.ensures in
-    let same_vectors : vectors ≡ vector_values s.core.bank.registers = ap (λ (k : Bank). vector_values k.vectors.registers) c.bank-bank.ensures.value in
+    let same_registers : registers ≡ register_values s.core.scalars =
+    ap (λ (k : Machine). register_values k.scalars) c.machine-machine.ensures in
+    let same_vectors : vectors ≡ vector_values s.core.bank.registers =
+    ap (λ (k : Bank). vector_values k.vectors.registers) c.bank-bank.ensures.value in
     let same_array : array ≡ array_values s.core.za_on s.core.bank.za =
     ap (λ (k : Machine). array_values k.za_on b.za.vectors) c.machine-machine.ensures
     ∙ ap (λ (k : Bank). array_values s.core.za_on k.za.vectors) c.bank-bank.ensures.value in
     let same_handlers : handlers ≡ handler_values (entries s.handlers) =
     ap handler_values (sym (handlers_in_order c.handlers.result.now) ∙ ap (λ (f : FinMap nat_cmp ℕ). entries f) c.handlers.ensures.value) in
     let same_output : output ≡ output_values s.output = ap output_values c.output.ensures in
-    let same_pages : pages ≡ page_values (pages_in s.core.memory) = ap (λ (k : Machine). page_values (pages_in k.pages.memory)) c.machine-machine.ensures in
+    let same_pages : pages ≡ page_values (pages_in s.core.memory) =
+    ap (λ (k : Machine). page_values (pages_in k.pages.memory)) c.machine-machine.ensures in
     let same : registers ++ (system ++ (vectors ++ (array ++ (handlers ++ (output ++ pages))))) ≡ state_values s =
     λ i. same_registers i ++ (system ++ (same_vectors i ++ (same_array i ++ (same_handlers i ++ (same_output i ++ same_pages i))))) in
     put_as (registers ++ (system ++ (vectors ++ (array ++ (handlers ++ (output ++ pages)))))) (state_values s) _ _ same

@@ -21,7 +21,8 @@ loop-k-preserved g c =
     let k = c.loop-k.k in
     let inside : k < length xs = omega (arith, c.size-k-end.ensures.square.count, c.size-k-end.ensures.value) in
     sofar_more (numbered-at (codes "za") xs k inside) c.loop-k.invariant
-    (as_text (ap (λ bytes. rows_text (concat (codes "za " ∷ decimal k ∷ [])) (bytes_row bytes)) c.vector.ensures.value) c.in_ok-put_register_line.ensures)
+    (as_text (ap (λ bytes. rows_text (concat (codes "za " ∷ decimal k ∷ []))
+    (bytes_row bytes)) c.vector.ensures.value) c.in_ok-put_register_line.ensures)
 
 pub returns-in_err-put_register_line : goal.returns-in_err-put_register_line
 returns-in_err-put_register_line g c =
@@ -29,7 +30,8 @@ returns-in_err-put_register_line g c =
     let k = c.loop-k.k in
     let inside : k < length xs = omega (arith, c.size-k-end.ensures.square.count, c.size-k-end.ensures.value) in
     sofar_stop _ (numbered-at (codes "za") xs k inside) c.loop-k.invariant
-    (as_text (ap (λ bytes. rows_text (concat (codes "za " ∷ decimal k ∷ [])) (bytes_row bytes)) c.vector.ensures.value) c.in_err-put_register_line.ensures)
+    (as_text (ap (λ bytes. rows_text (concat (codes "za " ∷ decimal k ∷ []))
+    (bytes_row bytes)) c.vector.ensures.value) c.in_err-put_register_line.ensures)
     c.from_residual.ensures.0
 
 pub returns : goal.returns

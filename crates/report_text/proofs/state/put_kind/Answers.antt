@@ -35,7 +35,9 @@ returns-in-Tpidr2 g c = one_line (state_seen c.args.view.now) c.args.kind kind.T
 
 pub returns-in-Svcr : goal.returns-in-Svcr
 unfolding number_line
-returns-in-Svcr g c = one_line (state_seen c.args.view.now) c.args.kind kind.Svcr _ c.in-Svcr.is refl (as_text (ap (number_line (codes "svcr")) (c.read_svcr.ensures (bank_state c.args.view.now.bank.now)))
+returns-in-Svcr g c =
+    one_line (state_seen c.args.view.now) c.args.kind kind.Svcr _ c.in-Svcr.is refl
+    (as_text (ap (number_line (codes "svcr")) (c.read_svcr.ensures (bank_state c.args.view.now.bank.now)))
     c.put_number_line-in-Svcr.ensures)
 
 pub returns-in-Held : goal.returns-in-Held
@@ -52,11 +54,14 @@ returns-in-Mask g c = one_line (state_seen c.args.view.now) c.args.kind kind.Mas
 
 pub returns-in-Depth : goal.returns-in-Depth
 unfolding number_line
-returns-in-Depth g c = one_line (state_seen c.args.view.now) c.args.kind kind.Depth _ c.in-Depth.is refl (as_text (ap (number_line (codes "depth")) c.from.ensures) c.put_number_line-in-Depth.ensures)
+returns-in-Depth g c =
+    one_line (state_seen c.args.view.now) c.args.kind kind.Depth _ c.in-Depth.is refl
+    (as_text (ap (number_line (codes "depth")) c.from.ensures) c.put_number_line-in-Depth.ensures)
 
 pub returns-in-Polled : goal.returns-in-Polled
 unfolding flag_line
-returns-in-Polled g c = one_line (state_seen c.args.view.now) c.args.kind kind.Polled _ c.in-Polled.is refl c.put_flag_line-in-Polled.ensures
+returns-in-Polled g c =
+    one_line (state_seen c.args.view.now) c.args.kind kind.Polled _ c.in-Polled.is refl c.put_flag_line-in-Polled.ensures
 
 pub returns-in-Handler : goal.returns-in-Handler
 returns-in-Handler g c =
