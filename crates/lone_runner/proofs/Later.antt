@@ -1,35 +1,16 @@
 -- From what is shown at a count to a later one, and to the end of a run.
-use Rattle.std.proofs.Common.{◌≡◌, ℕ, ◌<◌, ◌≤◌, ◌++◌, List, [], ◌∷◌, length, refl, ap, sym, ◌∙◌, arith}
-use Rattle.std.proofs.Common.{Option, Some, None}
+use Rattle.std.proofs.Common.{◌≡◌, ℕ, ◌<◌, ◌≤◌, List, refl, ap, sym, ◌∙◌, arith}
+use Rattle.std.proofs.Common.{Some, None}
 use Rattle.sm_types.specs.declared.config.Config.{Config}
 use Rattle.sm_types.specs.declared.shared_op.Event.{Event}
-use Rattle.sm_types.specs.declared.stop.Stop.{Stop}
-use Rattle.shared_region.specs.Ports.{ReplayEvents}
 use Rattle.paged_memory.specs.Image.{Program}
 use Rattle.kernel_contexts.specs.State.{State}
 use Rattle.kernel_contexts.specs.Run.{Reached, At, Ended, Strays, reach}
-use Rattle.kernel_contexts.specs.Context.{state_of, config_of, image_of, thread_of, stop_of, journal_of}
-use Rattle.kernel_contexts.specs.declared.context.Context.{Context}
-use Rattle.kernel_contexts.specs.Standing.{standing}
-use Rattle.lone_runner.specs.Parting.{IsParting, IsPartingBefore, IsShown, parting_at, state_at, unanswered}
-use Rattle.lone_runner.specs.Replayed.{IsAtStart, place_of}
-use Rattle.lone_runner.specs.Way.{IsBefore}
+use Rattle.lone_runner.specs.Parting.{parting_at, state_at, unanswered}
 use Rattle.lone_runner.specs.declared.fault.AloneFault.{AloneFault}
 use Rattle.lone_runner.specs.declared.fault.AloneFault.TheVariants.{EndsEarly}
 use Rattle.lone_runner.proofs.Partings.{count_later, stays_so, not_some}
-use Rattle.lone_runner.proofs.Shown.{none_yet, early, below_all, starts_before, shown_here}
-
--- a thread that has made no turn is shown at count 0
-pub shown_at_start : (context : Context) (ticket : ReplayEvents) → IsAtStart context ticket
-    → IsShown (image_of context) (config_of context) (thread_of context) (journal_of context ++ ticket.ahead) 0 context
-shown_at_start context ticket h =
-    shown_here (image_of context) (config_of context) (thread_of context) (journal_of context ++ ticket.ahead) 0 context ticket
-    (starts_before 0 context ticket h) h.held.home refl h.runs (omega arith)
-
--- what follows the same events in two lists that are equal
-pub same_rest : (xs more rest : List Event) → xs ++ more ≡ xs ++ rest → more ≡ rest
-same_rest [] more rest e = e
-same_rest (x ∷ xs) more rest e = let others : xs ++ more ≡ xs ++ rest = cc in same_rest xs more rest others
+use Rattle.lone_runner.proofs.Shown.{none_yet, early}
 
 -- a way of parting before a count is one from each later count
 pub parts_later : (n last : ℕ) (fault : AloneFault) (r : Reached) → n ≤ last → parting_at n r ≡ Some fault → (state_at r).count < n
@@ -66,42 +47,3 @@ module _ (program : Program) (config : Config) (thread : ℕ) (journal : List Ev
   at_before m n (Strays t done rest) s used left l at there count most =
       let stays = stays_so program config thread journal count (Strays t done rest) refl m n l at in
       let clash : At s used left ≡ Strays t done rest = sym there ∙ stays in cc
-
-  -- a context that is shown at a count and goes on is before each later one
-  pub before_later : (n count : ℕ) (context : Context) (ticket : ReplayEvents) → IsShown program config thread journal n context
-      → stop_of context ≡ None → journal ≡ journal_of context ++ ticket.ahead → n < count
-      → IsBefore program config thread journal count context ticket
-  before_later n count context ticket h runs whole less =
-      let rest : h.left ≡ ticket.ahead = same_rest (journal_of context) h.left ticket.ahead (sym h.events ∙ whole) in
-      let at : reach program config thread journal h.turns ≡ place_of context ticket None =
-      h.reached
-      ∙ ap (λ (o : Option Stop). standing (state_of context) o (length (journal_of context)) h.left) runs
-      ∙ ap (λ (l : List Event). At (state_of context) (length (journal_of context)) l) rest in
-      let counts = h.counts in
-      let here : counted_at h.turns ≡ (state_of context).count = ap (λ (r : Reached). (state_at r).count) at in
-      record {
-        way = record {
-          turns = h.turns;
-          at = at;
-          whole = whole;
-          none = λ m l.
-              at_before m h.turns (reach program config thread journal m) (state_of context) (length (journal_of context))
-              ticket.ahead l refl at count (omega (arith, counts, less));
-        };
-        below = λ m l.
-            let grown = count_later program config thread journal count m h.turns (omega (arith, l)) in
-            omega (arith, grown, here, counts, less);
-        most = omega (arith, counts, less);
-      }
-
-  -- a run that does not part from its end does not part before it
-  pub parts_so : (n last : ℕ) (fault : AloneFault) → IsPartingBefore program config thread journal n fault → n ≤ last
-      → IsParting program config thread journal last fault
-  parts_so n last fault p within = record {
-    turns = p.parting.turns;
-    parts = parts_later n last fault (reach program config thread journal p.parting.turns) within p.parting.parts
-        (below_all program config thread journal n p.parting.turns p.before);
-    first = λ m l.
-        none_later n last (reach program config thread journal m) within (p.parting.first m l)
-        (below_all program config thread journal n m (λ k b. p.before k (omega (arith, b, l))));
-  }

@@ -1,7 +1,7 @@
 -- A thread on its way from a state that no run vouches for.
 use Rattle.std.proofs.Common.{◌≡◌, ℕ, zero, suc, ◌+◌, ◌-◌, ◌*◌, ◌<◌, ◌≤◌, List, Option, Some, None, refl, ap, sym, ◌∙◌, arith, subst}
-use Rattle.std.proofs.Common.{◌++◌, length}
-use Rattle.std.proofs.lemmas.List.{append_assoc, length-append}
+use Rattle.std.proofs.Common.{◌++◌}
+use Rattle.std.proofs.lemmas.List.{append_assoc}
 use Rattle.sm_types.specs.declared.config.Config.{Config}
 use Rattle.sm_types.specs.declared.shared_op.Event.{Event}
 use Rattle.sm_types.specs.declared.stop.Stop.{Stop}
@@ -79,10 +79,6 @@ whole_stays made t u ahead answered =
     ap (λ (l : List Event). l ++ u.ahead) answered
     ∙ append_assoc t.answered made u.ahead
     ∙ ap (λ (l : List Event). t.answered ++ l) (sym ahead)
-
--- fewer events are ahead
-pub fewer_ahead : (made old new : List Event) → old ≡ made ++ new → length new ≤ length old
-fewer_ahead made old new h = omega (arith, ap length h, length-append made new)
 
 module _ (from : Loose) (events : List Event) (count : ℕ) where
   unfoldable pub resume_begins : (ticket : ReplayEvents) → ticket.ahead ≡ events → (loose_state from).count ≤ count
