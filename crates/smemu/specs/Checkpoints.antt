@@ -12,7 +12,7 @@ use Rattle.lone_runner.specs.declared.fault.AloneFault.TheVariants.{EndsEarly}
 use Rattle.ckpt_file.specs.Checkpoint.{checkpoint, ReadsCheckpoint}
 use Rattle.command_lines.specs.CheckpointLines.{checkpoint_line}
 use Rattle.command_lines.specs.declared.checkpoint_line.CheckpointFault.TheVariants.{Count}
-use Rattle.smemu.specs.DifferLines.{parting_line}
+use Rattle.report_compare.specs.DifferLines.{parting_line}
 use Rattle.smemu.specs.Replay.{IsBlockIn}
 
 -- after the fewest turns by which so many instructions are counted the thread goes on, in this state, and so

@@ -1,13 +1,11 @@
 pub mod Rejections
 pub mod Requests
 pub mod Threads
-pub mod DifferLines
 pub mod Replay
 pub mod Debug
 pub mod Checkpoints
 pub mod Resume
 pub mod Checks
-pub mod Compare
 pub mod Excerpt
 pub mod Worlds
 pub mod Runs

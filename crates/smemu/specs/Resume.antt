@@ -16,7 +16,7 @@ use Rattle.report_reader.specs.Report.{Report, report_in}
 use Rattle.report_reader.specs.declared.fault.ReportKind.TheVariants.{Image}
 use Rattle.report_text.specs.Block.{block_text}
 use Rattle.command_lines.specs.ReportLines.{difference_lines, report_line}
-use Rattle.smemu.specs.DifferLines.{parting_line}
+use Rattle.report_compare.specs.DifferLines.{parting_line}
 use Rattle.smemu.specs.Replay.{IsBlockIn, text_in}
 
 -- a checkpoint of a thread of a report: the block of the thread, and the state and the events used by then

@@ -44,7 +44,7 @@ use Rattle.smemu.specs.Answers.{IsFile, outcome}
 use Rattle.smemu.specs.Bench.{bench_line}
 use Rattle.smemu.specs.Checkpoints.{FallsShort, IsCheckpointOf, IsLate, IsShort}
 use Rattle.smemu.specs.Checks.{kind_word, IsLawfulOf, IsUnlawfulOf}
-use Rattle.smemu.specs.DifferLines.{parting_line}
+use Rattle.report_compare.specs.DifferLines.{parting_line}
 use Rattle.smemu.specs.Excerpt.{excerpt_text}
 use Rattle.smemu.specs.Ends.{Change, change, Stands, Defined, FetchesReached, absent_line, read_fault_line}
 use Rattle.smemu.specs.Rejections.{Judge, rejection_status, rejection_line}

@@ -1,16 +1,17 @@
 //! The ends of a request whose files are accepted, but for its answer.
 ghost use Rattle.std.specs.Prelude.{◌≡◌};
 ghost use Rattle.edge_io.specs.Sink.{Writes};
-ghost use Rattle.smemu.specs.Views.{ending_status, ending_text};
+ghost use Rattle.smemu.specs.Views.{difference_text, ending_status, ending_text};
 
 use crate::check::kind_word;
-use crate::differ_line::write_difference;
 use abi_checker::AbiKind;
 use command_lines::{
-    CheckpointFault, Status, write_checkpoint_fault, write_report_fault, write_unlawful,
+    CheckpointFault, Status, write_checkpoint_fault, write_difference_lines, write_report_fault,
+    write_unlawful,
 };
 use edge_io::{PutFault, Sink};
 use lone_runner::AloneFault;
+use report_compare::write_parting;
 use report_reader::ReportKind;
 
 /// How a request whose files are accepted ends, where it has no answer.
@@ -37,6 +38,20 @@ pub enum Difference {
         report: Vec<u8>,
         replay: Vec<u8>,
     },
+}
+
+/// Writes the lines that say where a thread and its report part.
+fn write_difference<K: Sink>(out: &mut K, it: &Difference) -> Result<(), PutFault>
+    ensures { Writes (K.view out.old) (K.view out.new) result (difference_text it.now) }
+{
+    match it {
+        Difference::Parts(fault) => write_parting(out, *fault),
+        Difference::Lines {
+            line,
+            report,
+            replay,
+        } => write_difference_lines(out, *line, report.as_slice(), replay.as_slice()),
+    }
 }
 
 /// The status of an ending.

@@ -15,7 +15,6 @@ ghost use Rattle.smemu.specs.declared.refusal.Refusal.TheVariants as refusals;
 ghost use Rattle.smemu.specs.Views.{ComparesSo, EndsReplay, IsOtherLine, IsPartedRefusal};
 
 use crate::answer::{Answer, Text};
-use crate::compare::{Comparison, Kept};
 use crate::ending::{Difference, Ending};
 use crate::excerpt::Excerpt;
 use crate::files::Opened;
@@ -24,6 +23,7 @@ use kernel_contexts::Context;
 use line_reader::{first_difference, is_word};
 use lone_runner::{AloneFault, run_alone};
 use paged_memory::Image;
+use report_compare::{Comparison, Kept};
 use report_reader::{Report, ReportBlock, ReportKind};
 use report_text::write_block_as;
 use sha2::{Digest, Sha256};

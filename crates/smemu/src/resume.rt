@@ -10,7 +10,6 @@ ghost use Rattle.smemu.specs.Views.{ended_text, rest_in, ComparesSo, EndsResume,
 ghost use Rattle.smemu.specs.Views.{IsRestRefusal, IsStateFor};
 
 use crate::answer::{Answer, Text};
-use crate::compare::Kept;
 use crate::ending::{Difference, Ending};
 use crate::excerpt::Excerpt;
 use crate::files::Opened;
@@ -19,6 +18,7 @@ use crate::replay::{check_match, compare_texts};
 use kernel_contexts::Loose;
 use lone_runner::{AloneFault, resume_alone};
 use paged_memory::Image;
+use report_compare::Kept;
 use report_reader::{Report, ReportBlock};
 use report_text::write_state_block;
 use sm_types::Stop;

@@ -28,7 +28,7 @@ use Rattle.command_lines.specs.declared.status.Status.TheVariants.{BadPlan, BadC
 use Rattle.smemu.specs.Answers.{IsToldBy, outcomes_of}
 use Rattle.smemu.specs.Checks as checks
 use Rattle.smemu.specs.Checks.{IsUnlawfulOf}
-use Rattle.smemu.specs.DifferLines.{parting_line, parting_words}
+use Rattle.report_compare.specs.DifferLines.{parting_line, parting_words}
 use Rattle.smemu.specs.Ends.{Change, Defined, Stands}
 use Rattle.smemu.specs.Rejections.{rejection_line, rejection_status}
 use Rattle.lone_runner.specs.declared.fault.AloneFault.{AloneFault}

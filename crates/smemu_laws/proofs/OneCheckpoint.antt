@@ -16,7 +16,7 @@ use Rattle.report_reader.specs.Report.{report_in}
 use Rattle.command_lines.specs.CheckpointLines.{checkpoint_line}
 use Rattle.command_lines.specs.declared.checkpoint_line.CheckpointFault.TheVariants.{Count}
 use Rattle.smemu.specs.Checkpoints.{FallsShort, IsCheckpointOf, IsLate, IsShort, StandsAt, StopsAt}
-use Rattle.smemu.specs.DifferLines.{parting_line}
+use Rattle.report_compare.specs.DifferLines.{parting_line}
 use Rattle.smemu.specs.Replay.{IsBlockIn}
 use Rattle.smemu_laws.proofs.OneAnswer.{IsOneBlock, one_block, same_said}
 

@@ -30,7 +30,7 @@ use Rattle.command_lines.specs.declared.status.Status.TheVariants.{Done, Absent,
 use Rattle.command_lines.specs.declared.status.Status.TheVariants.{BadCheckpoint}
 use Rattle.smemu.specs.Answers.{IsOutcome, IsToldBy, outcomes_of, outcome}
 use Rattle.smemu.specs.Checks.{IsCheckOf}
-use Rattle.smemu.specs.DifferLines.{parting_line}
+use Rattle.report_compare.specs.DifferLines.{parting_line}
 use Rattle.smemu.specs.Ends.{Change, Stands}
 use Rattle.smemu.specs.Rejections.{rejection_line, rejection_status}
 use Rattle.smemu.specs.Replay.{mismatch, text_in, text_of, EndsAsSaid, IsBlockIn, IsReplayOf, IsMismatched, IsParted, MismatchesSo}

@@ -27,7 +27,7 @@ use Rattle.report_reader.specs.Report.{Report, report_in}
 use Rattle.report_reader.specs.declared.fault.ReportKind.TheVariants.{Image, NoThread}
 use Rattle.report_text.specs.Block.{block_text}
 use Rattle.command_lines.specs.ReportLines.{difference_lines}
-use Rattle.smemu.specs.DifferLines.{parting_line}
+use Rattle.report_compare.specs.DifferLines.{parting_line}
 use Rattle.smemu.specs.Replay.{text_in}
 use Rattle.smemu.specs.Resume.{rest_of, rest_text, IsOtherProgram, IsRestIn, IsResumeOf, RestDiffers, RestEnds}
 use Rattle.smemu_laws.proofs.OneAnswer.{no_line, none_some, same_said}

@@ -1,7 +1,7 @@
 use Rattle.std.proofs.Common.{rules, ◌≡◌, ◌++◌, length, take, drop, sym, ap, ◌∙◌}
 use Rattle.std.proofs.Math.Seq.{take-add}
 use Rattle.std.proofs.lemmas.Slice.Eq.{bytes_eq-Decides}
-use Rattle.smemu.proofs.compare.Comparison.goes_on.Goals as goal
+use Rattle.report_compare.proofs.compare.Comparison.goes_on.Goals as goal
 
 pub returns-then-bytes-self-clause-next : goal.returns-then-bytes-self-clause-next
 returns-then-bytes-self-clause-next c = λ is.

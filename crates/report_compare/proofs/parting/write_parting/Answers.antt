@@ -1,5 +1,5 @@
 use Rattle.edge_io.proofs.Gathering.{flushed}
-use Rattle.smemu.proofs.differ_line.write_parting.Goals as goal
+use Rattle.report_compare.proofs.parting.write_parting.Goals as goal
 
 pub returns : goal.returns
 returns g c = flushed c.new-piece.ensures c.in_ok-put_parting.ensures c.flush.ensures.written

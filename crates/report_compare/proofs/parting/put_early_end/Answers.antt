@@ -1,5 +1,5 @@
 use Rattle.edge_io.proofs.Gathering.{and_then, and_stop, and_end}
-use Rattle.smemu.proofs.differ_line.put_early_end.Goals as goal
+use Rattle.report_compare.proofs.parting.put_early_end.Goals as goal
 
 pub returns-in_err-put : goal.returns-in_err-put
 returns-in_err-put g c = and_stop _ c.in_err-put.ensures c.from_residual.ensures.0

@@ -1,8 +1,8 @@
 -- What the sinks of a replay hold.
 use Rattle.std.specs.Prelude.{ℕ, List, Some, take}
 use Rattle.edge_io.specs.Sink.{SinkView}
-use Rattle.smemu.specs.declared.compare.Comparison.{Comparison}
-use Rattle.smemu.specs.declared.compare.Kept.{Kept}
+use Rattle.report_compare.specs.declared.compare.Comparison.{Comparison}
+use Rattle.report_compare.specs.declared.compare.Kept.{Kept}
 
 -- what came of a text that is compared
 abbrev pub came : Comparison → List ℕ

@@ -1,5 +1,5 @@
-use Rattle.smemu.specs.DifferLines.{parting_words}
-use Rattle.smemu.proofs.differ_line.put_parting_words.Goals as goal
+use Rattle.report_compare.specs.DifferLines.{parting_words}
+use Rattle.report_compare.proofs.parting.put_parting_words.Goals as goal
 
 pub returns-in-JournalLong : goal.returns-in-JournalLong
 unfolding parting_words

@@ -1,6 +1,6 @@
 use Rattle.edge_io.proofs.Gathering.{and_then, and_stop, and_end}
-use Rattle.smemu.specs.DifferLines.{parting_line}
-use Rattle.smemu.proofs.differ_line.put_parting.Goals as goal
+use Rattle.report_compare.specs.DifferLines.{parting_line}
+use Rattle.report_compare.proofs.parting.put_parting.Goals as goal
 
 pub returns-in_err-put : goal.returns-in_err-put
 unfolding parting_line

@@ -16,7 +16,7 @@ pub struct Comparison<'a> {
 }
 
 impl<'a> Comparison<'a> {
-    ghost use Rattle.smemu.specs.Compare.{came};
+    ghost use Rattle.report_compare.specs.Compare.{came};
 
     /// With that text, of which nothing came yet.
     pub fn with(expected: &'a [u8]) -> Comparison<'a>
@@ -49,7 +49,7 @@ impl<'a> Comparison<'a> {
 }
 
 impl Sink for Comparison<'_> {
-    ghost use Rattle.smemu.specs.Compare.{comparison_view};
+    ghost use Rattle.report_compare.specs.Compare.{comparison_view};
 
     ghost view = { comparison_view };
 
@@ -91,7 +91,7 @@ impl Kept {
 }
 
 impl Sink for Kept {
-    ghost use Rattle.smemu.specs.Compare.{kept_view};
+    ghost use Rattle.report_compare.specs.Compare.{kept_view};
 
     ghost view = { kept_view };
 

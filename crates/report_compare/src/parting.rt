@@ -1,14 +1,11 @@
-//! The lines that say where a thread parts from its report.
+//! The line that says how a thread parts from its journal and count.
 ghost use Rattle.std.specs.Prelude.{◌≡◌, ◌∷◌, [], codes, decimal};
 ghost use Rattle.std.specs.List.{concat};
 ghost use Rattle.text_lines.specs.Words.{stop_words};
 ghost use Rattle.edge_io.specs.Pieces.{gathered, Gathers};
 ghost use Rattle.edge_io.specs.Sink.{Writes};
-ghost use Rattle.smemu.specs.DifferLines as spec;
-ghost use Rattle.smemu.specs.Views.{difference_text};
+ghost use Rattle.report_compare.specs.DifferLines as spec;
 
-use crate::ending::Difference;
-use command_lines::write_difference_lines;
 use edge_io::{Piece, PutFault, Sink};
 use lone_runner::AloneFault;
 use sm_types::Stop;
@@ -67,25 +64,12 @@ fn put_parting<K: Sink>(piece: &mut Piece, out: &mut K, fault: AloneFault) -> Re
     piece.put(out, b"\n")
 }
 
-/// Writes the line that says how a thread parts from its journal and count.
-fn write_parting<K: Sink>(out: &mut K, fault: AloneFault) -> Result<(), PutFault>
+/// Writes the line that says how a thread parts from its journal and count. `Failed` where the sink fails; a
+/// part of the line from the front is then written.
+pub fn write_parting<K: Sink>(out: &mut K, fault: AloneFault) -> Result<(), PutFault>
     ensures { Writes (K.view out.old) (K.view out.new) result (spec.parting_line fault) }
 {
     let mut piece = Piece::new();
     put_parting(&mut piece, out, fault)?;
     piece.flush(out)
-}
-
-/// Writes the lines that say where a thread and its report part.
-pub fn write_difference<K: Sink>(out: &mut K, it: &Difference) -> Result<(), PutFault>
-    ensures { Writes (K.view out.old) (K.view out.new) result (difference_text it.now) }
-{
-    match it {
-        Difference::Parts(fault) => write_parting(out, *fault),
-        Difference::Lines {
-            line,
-            report,
-            replay,
-        } => write_difference_lines(out, *line, report.as_slice(), replay.as_slice()),
-    }
 }
