@@ -1,5 +1,5 @@
 -- The mark at a tail, where one of its words is known.
-use Rattle.std.proofs.Common.{◌≡◌, ℕ, ℤ, ◌+◌, ◌-◌, ◌%◌, ◌^◌, refl, ap, sym, ◌∙◌, subst, Option, Some, None, true}
+use Rattle.std.proofs.Common.{◌≡◌, ℕ, ℤ, ◌+◌, ◌-◌, ◌*◌, ◌%◌, ◌^◌, ◌<◌, arith, refl, ap, sym, ◌∙◌, subst, Option, Some, None, true}
 use Rattle.std.specs.Prelude.{unwrap_or}
 use Rattle.sm_types.specs.declared.insn.Insn.TheVariants as insn
 use Rattle.sm_types.specs.declared.insn.Branch.TheVariants as branch
@@ -43,3 +43,10 @@ module _ (m : AddressSpace) (tail : ℕ) (w : Option ℕ) (is : w ≡ word_in m 
         subst (λ a. AreWords m ((a + (2 ^ 64 - 80)) % 2 ^ 64) disable_words) place
             (subst (λ a. AreWords m a disable_words) h.end h.disable),
       )
+
+-- the first word of the tail
+pub first_there : (m : AddressSpace) (tail : ℕ) → tail < 2 ^ 64 → (w : Option ℕ) → w ≡ word_in m tail → (p : Places) → p.tail ≡ tail
+    → HasMark m p → w ≡ Some 0xD503457F
+first_there m tail small w is p at h =
+    let place : tail ≡ (tail + 4 * 0) % 2 ^ 64 = omega (arith, small) in
+    is ∙ ap (word_in m) place ∙ ap (λ a. word_in m ((a + 4 * 0) % 2 ^ 64)) (sym at) ∙ h.tail 0 0xD503457F refl

@@ -1,5 +1,5 @@
 //! Marked calls.
-ghost use Rattle.std.specs.Prelude.{◌≡◌, ◌+◌, ◌%◌, ◌^◌, ℤ, true, Some, IfSome, IfNone};
+ghost use Rattle.std.specs.Prelude.{◌≡◌, ◌+◌, ◌%◌, ◌^◌, ℤ, true, Some, IfSome, IfNone, IsTrue};
 ghost use Rattle.sm_types.specs.declared.insn.Insn.TheVariants as insn;
 ghost use Rattle.sm_types.specs.declared.insn.Branch.TheVariants as branch;
 ghost use Rattle.sm_types.specs.Routines.{tail_words};
@@ -68,12 +68,26 @@ fn tail_words(call: u32) -> [u32; 6]
     words
 }
 
+/// Whether the first word of a tail is at an address; where it is not, there is no tail.
+#[inline]
+fn has_first_word(pages: &Pages, tail: u64) -> bool
+    ensures { (p : Places) → p.tail ≡ tail → HasMark pages.now.memory p → IsTrue result }
+{
+    match word_in(pages, tail) {
+        Some(word) => word == 0xD503_457F,
+        None => false,
+    }
+}
+
 /// The places of the tail at an address and of the routines that go with it, if they are there.
 pub fn mark_at(pages: &Pages, tail: u64) -> Option<RoutinePlaces>
     ensures tail { IfSome result (λ places. places.tail ≡ tail) }
     ensures some { IfSome result (λ places. HasMark pages.now.memory (places_of places)) }
     ensures none { IfNone result ((p : Places) → p.tail ≡ tail → ¬ HasMark pages.now.memory p) }
 {
+    if !has_first_word(pages, tail) {
+        return None;
+    }
     routines_are_listed();
     let place = tail.wrapping_add(16);
     let call = word_in(pages, place)?;

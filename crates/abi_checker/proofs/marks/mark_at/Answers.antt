@@ -6,6 +6,12 @@ use Rattle.abi_checker.proofs.Marked.{no_word, no_target, mark_words}
 use Rattle.abi_checker.proofs.marks.mark_at.Goals as goal
 use Rattle.abi_checker.proofs.marks.mark_at.Goals.{else-are_words-via-then-are_words+then-are_words-2+else-are_words-3, else-are_words-via-then-are_words+else-are_words-2, else-are_words-via-else-are_words}
 
+pub returns-then-not-has_first_word-clause-none : goal.returns-then-not-has_first_word-clause-none
+returns-then-not-has_first_word-clause-none c = λ p at h.
+    let yes = c.has_first_word.ensures p at h in
+    let no = c.if-not-has_first_word.true in
+    cc
+
 pub returns-in_err-call-clause-none : goal.returns-in_err-call-clause-none
 returns-in_err-call-clause-none c =
     let none : (p : Places) → p.tail ≡ c.args.tail → ¬ HasMark c.args.pages.now.memory p =
