@@ -134,7 +134,8 @@ impl Context {
     /// Makes turns of a thread that has not stopped, on the context's own save area, `most` at most, and
     /// tells how many. Each is an instruction that is counted and asks nothing. There are fewer where the
     /// next turn may be none of these, or where memory may be wanting for it. Owned pages stay owned; which
-    /// come to them, `advance` says.
+    /// come to them, `advance` says. It is laid into its callers, of which one makes few turns at a time.
+    #[inline(always)]
     pub fn advance_several(&mut self, most: u32) -> u32
         requires home { is_home self.old ≡ true }
         requires runs { stop_of self.old ≡ None }

@@ -234,6 +234,8 @@ impl GuestThread {
     /// Makes turns of a thread that has not stopped, `most` at most, and tells how many: instructions that
     /// are executed at once, up to the watched count, at which alone something else may be due; where `apart`
     /// says that the thread is kept off its vectors, none that reads or writes them. Owned pages stay owned.
+    /// It is laid into its callers, of which one makes few turns at a time.
+    #[inline(always)]
     pub fn make_several_turns(&mut self, bank: &mut Bank, apart: bool, most: u32) -> u32
         requires { IsFit self.old.config self.old.machine bank.old }
         ensures turns { GoesApart apart self.old.config self.old.number (guest_events self.old) result

@@ -16,7 +16,8 @@ impl Machine {
     /// Executes instructions one after the other, `most` at most, and tells how many. It ends before one that
     /// is not executed at once, that may raise or ask, or for which memory is wanting; and, where `apart` says
     /// that the machine is kept off the bank, before one that needs a bank. Owned pages stay owned; which come
-    /// to them, the single step says.
+    /// to them, the single step says. It is laid into the function that makes turns by it.
+    #[inline(always)]
     pub fn step_several(
         &mut self,
         decoder: &mut Decoder,
