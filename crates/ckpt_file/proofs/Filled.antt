@@ -1,5 +1,6 @@
 -- The fields of a thread's state are as the table of a checkpoint says.
-use Rattle.std.proofs.Common.{◌≡◌, ℕ, ◌+◌, ◌*◌, ◌/◌, ◌%◌, ◌<◌, ◌≤◌, ◌^◌, ◌==◌, ◌++◌, Bool, true, false, List, [], ◌∷◌, length, map, refl, ap, sym, ◌∙◌, subst, arith}
+use Rattle.std.proofs.Common.{◌≡◌, ℕ, ◌+◌, ◌*◌, ◌/◌, ◌%◌, ◌<◌, ◌≤◌, ◌^◌, ◌==◌, ◌++◌, Bool, true, false, List, [], ◌∷◌, length, map}
+use Rattle.std.proofs.Common.{refl, ap, sym, ◌∙◌, subst, arith}
 use Rattle.std.specs.Prelude.{nat_lt, nat_le, if◌then◌else◌}
 use Rattle.std.specs.FinMap.{entries, len}
 use Rattle.std.proofs.lemmas.Bool.Decides.{nat_tests}
@@ -22,7 +23,8 @@ use Rattle.ckpt_fields.specs.Rows.{from_thread, from_registers, from_system, fro
 use Rattle.ckpt_fields.specs.Values.{thread_values, system_values, handler_values, output_values, page_values}
 use Rattle.ckpt_file.specs.Checkpoint.{register_values, vector_values, array_values, pages_in, state_values, checkpoint_values, HasWidths}
 use Rattle.ckpt_file.proofs.Filling.{each_of_all, AreOfSize, fields_fill}
-use Rattle.ckpt_file.proofs.Parts.{AreNarrow, IsProgress, first_fill, thread_fill, words_of_size, system_fill, vectors_fill, handlers_fill, output_fill, pages_fill}
+use Rattle.ckpt_file.proofs.Parts.{AreNarrow, IsProgress, first_fill, thread_fill, words_of_size, system_fill, vectors_fill}
+use Rattle.ckpt_file.proofs.Parts.{handlers_fill, output_fill, pages_fill}
 use Rattle.ckpt_file.proofs.Parts.{IsNarrowEntry, AreHandlersPast}
 use Rattle.ckpt_file.proofs.Modes.{and_both}
 use Rattle.ckpt_file.proofs.Sized.{sized, sized_predicates}

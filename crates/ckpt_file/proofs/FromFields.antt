@@ -1,5 +1,6 @@
 -- A state that has the plain fields of a file is the one that the file says.
-use Rattle.std.proofs.Common.{◌≡◌, ℕ, ◌*◌, ◌/◌, ◌%◌, ◌<◌, ◌^◌, ◌++◌, Bool, true, false, List, [], ◌∷◌, length, map, All, refl, ap, sym, ◌∙◌, subst, arith}
+use Rattle.std.proofs.Common.{◌≡◌, ℕ, ◌*◌, ◌/◌, ◌%◌, ◌<◌, ◌^◌, ◌++◌, Bool, true, false, List, [], ◌∷◌, length, map, All, refl, ap, sym}
+use Rattle.std.proofs.Common.{◌∙◌, subst, arith}
 use Rattle.std.specs.Prelude.{if◌then◌else◌}
 use Rattle.std.proofs.lemmas.List.{length-map}
 use Rattle.std.specs.FinMap.{entries}
@@ -18,7 +19,8 @@ use Rattle.kernel_contexts.specs.LooseState.{IsLooseState, HasFields, HasVectors
 use Rattle.kernel_contexts.specs.declared.loose_state.LooseState.{LooseState}
 use Rattle.kernel_contexts.specs.declared.loose_state.Handler.{Handler}
 use Rattle.ckpt_fields.specs.Rows.{length_for, array_size}
-use Rattle.ckpt_fields.specs.Values.{doublewords, first_values, thread_values, system_values, handler_values, output_values, page_values, page_said}
+use Rattle.ckpt_fields.specs.Values.{doublewords, first_values, thread_values, system_values, handler_values, output_values}
+use Rattle.ckpt_fields.specs.Values.{page_values, page_said}
 use Rattle.ckpt_file.specs.Checkpoint.{checkpoint_values, state_values, vector_values, array_values, pages_in, HasWidths}
 use Rattle.ckpt_file.specs.Loose.{loose_values, HasLooseSizes, HasNarrowNumbers, IsNarrowEntry}
 use Rattle.ckpt_file.proofs.Filling.{Each, each_of_all, all_of_each}

@@ -1,5 +1,6 @@
 -- The fields of a file that are as the table says are those of a thread.
-use Rattle.std.proofs.Common.{◌≡◌, ◌≢◌, ℕ, zero, suc, ◌+◌, ◌*◌, ◌/◌, ◌%◌, ◌<◌, ◌≤◌, ◌^◌, ◌==◌, ◌&&◌, ◌++◌, true, List, [], ◌∷◌, length, map, Some, refl, ap, ◌∙◌, subst, arith}
+use Rattle.std.proofs.Common.{◌≡◌, ◌≢◌, ℕ, zero, suc, ◌+◌, ◌*◌, ◌/◌, ◌%◌, ◌<◌, ◌≤◌, ◌^◌, ◌==◌, ◌&&◌, ◌++◌, true, List, [], ◌∷◌, length}
+use Rattle.std.proofs.Common.{map, Some, refl, ap, ◌∙◌, subst, arith}
 use Rattle.std.specs.Prelude.{nat_lt, nat_le, not, slice_get, slice_index}
 use Rattle.std.proofs.lemmas.Bool.Decides.{nat_tests}
 use Rattle.std.proofs.lemmas.List.{length-map, length-append}
@@ -17,12 +18,14 @@ use Rattle.kernel_contexts.specs.LooseState.{IsHandler, AreHandlers, IsLooseStat
 use Rattle.kernel_contexts.specs.declared.loose_state.LooseState.{LooseState}
 use Rattle.kernel_contexts.specs.declared.loose_state.Handler.{Handler}
 use Rattle.ckpt_fields.specs.Rows.{checkpoint_table, length_for, array_size, most_depth, counts, journals}
-use Rattle.ckpt_fields.specs.Rows.{is_signal_past, is_page_address, from_thread, from_registers, from_system, from_vectors, from_handlers, from_output, pages_of}
+use Rattle.ckpt_fields.specs.Rows.{is_signal_past, is_page_address, from_thread, from_registers, from_system, from_vectors}
+use Rattle.ckpt_fields.specs.Rows.{from_handlers, from_output, pages_of}
 use Rattle.ckpt_fields.specs.Values.{doublewords, thread_values, system_values, handler_values, output_values, page_values, page_said}
 use Rattle.ckpt_file.specs.Loose.{loose_values, HasLooseSizes, HasNarrowNumbers}
 use Rattle.ckpt_file.specs.Loose as loose
 use Rattle.ckpt_file.proofs.Filling.{Each, each_of_all, all_of_each, fields_good}
-use Rattle.ckpt_file.proofs.Parts.{first_good, thread_good, system_good, vectors_good, handlers_good, output_good, pages_good, IsProgress, IsSystem}
+use Rattle.ckpt_file.proofs.Parts.{first_good, thread_good, system_good, vectors_good, handlers_good, output_good, pages_good}
+use Rattle.ckpt_file.proofs.Parts.{IsProgress, IsSystem}
 use Rattle.ckpt_file.proofs.Parts.{IsNarrowEntry, IsNarrowPage, AreHandlersPast, ArePagesPast}
 use Rattle.ckpt_file.proofs.Modes.{and_first, and_second, length_is, array_bytes, depth_is, unmasked_by}
 

@@ -1,5 +1,6 @@
 -- The parts of the table of a checkpoint: which values fill them, and what is so of values that do.
-use Rattle.std.proofs.Common.{◌≡◌, ℕ, ◌+◌, ◌*◌, ◌/◌, ◌<◌, ◌^◌, ◌==◌, ◌++◌, Bool, true, false, List, [], ◌∷◌, length, map, refl, ap, sym, ◌∙◌, subst, arith, append_assoc}
+use Rattle.std.proofs.Common.{◌≡◌, ℕ, ◌+◌, ◌*◌, ◌/◌, ◌<◌, ◌^◌, ◌==◌, ◌++◌, Bool, true, false, List, [], ◌∷◌, length, map, refl, ap, sym}
+use Rattle.std.proofs.Common.{◌∙◌, subst, arith, append_assoc}
 use Rattle.std.specs.Prelude.{nat_lt, nat_le, slice_index}
 use Rattle.std.specs.List.{flat_map}
 use Rattle.std.specs.Str.{bytes_eq}
@@ -13,11 +14,14 @@ use Rattle.report_reader.specs.Report.{Report}
 use Rattle.field_table.specs.Table.{Table, End, IsFilled}
 use Rattle.field_table.specs.Rows.{number, said, fields, repeated}
 use Rattle.ckpt_fields.specs.Rows.{first_rows, options_rows, thread_rows, system_rows, vector_rows, handler_row, handlers_of, output_rows}
-use Rattle.ckpt_fields.specs.Rows.{page_row, pages_of, counts, journals, most_depth, is_count, are_events, are_flags, is_mask, length_for, array_size}
+use Rattle.ckpt_fields.specs.Rows.{page_row, pages_of, counts, journals, most_depth, is_count, are_events, are_flags, is_mask}
+use Rattle.ckpt_fields.specs.Rows.{length_for, array_size}
 use Rattle.ckpt_fields.specs.Rows.{is_signal_past, is_page_address, tag}
-use Rattle.ckpt_fields.specs.Values.{first_values, option_values, thread_values, system_values, handler_value, handler_values, output_values}
+use Rattle.ckpt_fields.specs.Values.{first_values, option_values, thread_values, system_values, handler_value, handler_values}
+use Rattle.ckpt_fields.specs.Values.{output_values}
 use Rattle.ckpt_fields.specs.Values.{page_value, page_values}
-use Rattle.ckpt_file.proofs.Filling.{back, word_back, doubleword_back, Each, AreOfSize, AreGood, items_good, items_fill, fields_good, fields_fill}
+use Rattle.ckpt_file.proofs.Filling.{back, word_back, doubleword_back, Each, AreOfSize, AreGood, items_good, items_fill, fields_good}
+use Rattle.ckpt_file.proofs.Filling.{fields_fill}
 
 -- ---- the tag, the digest and the options
 

@@ -1,5 +1,6 @@
 -- Fields that are put one after the other.
-use Rattle.std.proofs.Common.{◌≡◌, ℕ, suc, ◌+◌, ◌*◌, ◌/◌, ◌%◌, ◌<◌, ◌==◌, ◌++◌, Bool, true, false, not, cond, List, [], ◌∷◌, length, map, take, get_or, Some, refl, ap, sym, ◌∙◌, arith, append_assoc}
+use Rattle.std.proofs.Common.{◌≡◌, ℕ, suc, ◌+◌, ◌*◌, ◌/◌, ◌%◌, ◌<◌, ◌==◌, ◌++◌, Bool, true, false, not, cond, List, [], ◌∷◌, length}
+use Rattle.std.proofs.Common.{map, take, get_or, Some, refl, ap, sym, ◌∙◌, arith, append_assoc}
 use Rattle.std.specs.Prelude.{slice_get, slice_index, slice_index_or, count_by}
 use Rattle.std.specs.List.{concat, flat_map}
 use Rattle.std.specs.FinMap.{entries, len, len-entries}

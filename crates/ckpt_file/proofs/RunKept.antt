@@ -1,5 +1,6 @@
 -- What a thread's turns keep: its pages with their permissions, and that its mask and its handlers are of signals.
-use Rattle.std.proofs.Common.{◌≡◌, ℕ, zero, suc, ◌+◌, ◌-◌, ◌*◌, ◌%◌, ◌^◌, ◌<◌, ◌≤◌, ◌==◌, Bool, true, false, List, [], ◌∷◌, Option, Some, None, refl, ap, sym, ◌∙◌, subst, arith}
+use Rattle.std.proofs.Common.{◌≡◌, ℕ, zero, suc, ◌+◌, ◌-◌, ◌*◌, ◌%◌, ◌^◌, ◌<◌, ◌≤◌, ◌==◌, Bool, true, false, List, [], ◌∷◌, Option}
+use Rattle.std.proofs.Common.{Some, None, refl, ap, sym, ◌∙◌, subst, arith}
 use Rattle.std.specs.Prelude.{◌&&◌, ◌||◌, nat_lt, nat_le, slice_index, length, bit_and, bit_or, if◌then◌else◌, unwrap_or}
 use Rattle.std.specs.Int.{w64, bit_not}
 use Rattle.std.specs.FinMap.{get, get-empty}
@@ -43,7 +44,8 @@ use Rattle.machine_step.specs.Effect.{array_accessed, perform, unless_fault, fau
 use Rattle.machine_step.specs.Effect as instruction
 use Rattle.signal_frames.specs.Frame.{frame_fault, entered, with_frame}
 use Rattle.signal_frames.specs.Return.{return_fault, fault_at, stop_of, expected_of, read_at, returned as returned_from, restored, unmasked}
-use Rattle.signal_frames.specs.Saved.{saved_masking, number_at, is_head, is_frame, is_nested, is_zero_past, saved_length, body_of, has_modes, has_sizes, saved_signal}
+use Rattle.signal_frames.specs.Saved.{saved_masking, number_at, is_head, is_frame, is_nested, is_zero_past, saved_length, body_of}
+use Rattle.signal_frames.specs.Saved.{has_modes, has_sizes, saved_signal}
 use Rattle.signal_frames.specs.Layout.{frame_tag}
 use Rattle.signal_frames.specs.declared.head.Expected.{Expected}
 use Rattle.kernel_contexts.specs.Kernel.{masked_inside}
@@ -53,8 +55,10 @@ use Rattle.kernel_contexts.specs.KernelCall.{call_numbered}
 use Rattle.kernel_contexts.specs.declared.kernel_call.KernelCall.{KernelCall}
 use Rattle.kernel_contexts.specs.declared.kernel_call.KernelCall.TheVariants as call
 use Rattle.kernel_contexts.specs.Watch.{AreOfSignals}
-use Rattle.kernel_contexts.specs.Call.{TurnEnd, Goes, Yields, Asks, Ends, counted, written as wrote, called, call_of, write_of, exit_of, set_handler_of}
-use Rattle.kernel_contexts.specs.Call.{output_limit, journal_limit, asking, post_of, post_op, set_mask_of, masked, signals_in, return_of, return_unless, returned}
+use Rattle.kernel_contexts.specs.Call.{TurnEnd, Goes, Yields, Asks, Ends, counted, written as wrote, called, call_of, write_of, exit_of}
+use Rattle.kernel_contexts.specs.Call.{set_handler_of}
+use Rattle.kernel_contexts.specs.Call.{output_limit, journal_limit, asking, post_of, post_op, set_mask_of, masked, signals_in}
+use Rattle.kernel_contexts.specs.Call.{return_of, return_unless, returned}
 use Rattle.kernel_contexts.specs.Turn.{turn_of, after_effect, outside_streaming, is_poll_due, poll_op, polled_with}
 use Rattle.kernel_contexts.specs.Turn.{is_delivery_due, delivered_to, handled, released, lowest_signal}
 use Rattle.kernel_contexts.specs.Run.{Reached, At, Ended, Strays, turned, after_turn, reach_from, reach}

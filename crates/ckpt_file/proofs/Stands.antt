@@ -6,7 +6,8 @@ use Rattle.field_table.specs.Rows.{number, said}
 use Rattle.field_table.specs.Table.{IsFilled}
 use Rattle.kernel_contexts.specs.State.{State}
 use Rattle.report_reader.specs.Report.{Report}
-use Rattle.ckpt_fields.specs.Rows.{are_events, checkpoint_table, counts, first_rows, from_registers, is_count, journals, options_rows, thread_rows}
+use Rattle.ckpt_fields.specs.Rows.{are_events, checkpoint_table, counts, first_rows, from_registers, is_count, journals, options_rows}
+use Rattle.ckpt_fields.specs.Rows.{thread_rows}
 use Rattle.ckpt_fields.specs.Values.{first_values, option_values, thread_values}
 use Rattle.ckpt_file.specs.Beyond.{StandsInBlock}
 use Rattle.ckpt_file.specs.Checkpoint.{checkpoint_values, state_values, ReadsCheckpoint}

@@ -44,7 +44,8 @@ module _ (program : Program) (config : Config) (thread : ℕ) (journal : List Ev
 
   module _ (count : ℕ) (fault : AloneFault) (most : s.count ≤ count) where
     none_before : (n : ℕ) → n ≤ turns → parting_at count (reach program config thread journal n) ≡ None
-    none_before n l = at_before program config thread journal n turns (reach program config thread journal n) s used left l refl at count most
+    none_before n l = at_before program config thread journal n turns (reach program config thread journal n) s used left l refl at count
+        most
 
     parts_so : IsParting program config thread journal count fault → IsPartingFrom config thread s used left count fault
     parts_so h = elim (within_or turns h.turns) [

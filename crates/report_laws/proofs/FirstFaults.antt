@@ -1,5 +1,6 @@
 -- The fault of a report is at the first line that is not in the format.
-use Rattle.std.proofs.Common.{◌≡◌, ℕ, zero, suc, ◌+◌, ◌-◌, ◌/◌, ◌<◌, ◌≤◌, min, nat_lt, inl, inr, Bool, true, false, cond, List, [], ◌∷◌, length, take, replicate, Result, Ok, Err, refl, sym, ap, ◌∙◌, arith, subst}
+use Rattle.std.proofs.Common.{◌≡◌, ℕ, zero, suc, ◌+◌, ◌-◌, ◌/◌, ◌<◌, ◌≤◌, min, nat_lt, inl, inr, Bool, true, false, cond, List, [], ◌∷◌}
+use Rattle.std.proofs.Common.{length, take, replicate, Result, Ok, Err, refl, sym, ap, ◌∙◌, arith, subst}
 use Rattle.std.specs.Prelude.{codes}
 use Rattle.std.specs.Str.{bytes_eq}
 use Rattle.std.proofs.lemmas.Bool.{ltb-false, ltb-true}
@@ -17,12 +18,14 @@ use Rattle.report_reader.specs.Events.{number_line, is_thread, out_line, event_l
 use Rattle.report_reader.specs.Header.{version_line, options_line, image_line}
 use Rattle.report_reader.specs.Block as spec
 use Rattle.report_reader.specs.Block.{Block, block, together, lines_of_kinds}
-use Rattle.report_reader.specs.Report.{Report, report_lines, report_in, all_lines, outcome, shared_words, nothing, word_lines, part_at_end, with_settings}
+use Rattle.report_reader.specs.Report.{Report, report_lines, report_in, all_lines, outcome, shared_words, nothing, word_lines}
+use Rattle.report_reader.specs.Report.{part_at_end, with_settings}
 use Rattle.report_reader.specs.Grammar.{IsReportOf}
 use Rattle.report_reader.specs.declared.fault.ReportKind.TheVariants as part
 use Rattle.report_laws.specs.FirstFault.{BeginsAlike, IsTooLong, IsFaultOf}
 use Rattle.report_laws.proofs.FormatReports.{short_is, format_read}
-use Rattle.report_laws.proofs.FirstLines.{AreAlike, GoesByLines, IsLater, IsSame, by_then, by_give, by_place, by_each, by_line, by_line_by, by_maybe, by_any, by_all, by_nothing}
+use Rattle.report_laws.proofs.FirstLines.{AreAlike, GoesByLines, IsLater, IsSame, by_then, by_give, by_place, by_each, by_line}
+use Rattle.report_laws.proofs.FirstLines.{by_line_by, by_maybe, by_any, by_all, by_nothing}
 
 -- ---- a block
 

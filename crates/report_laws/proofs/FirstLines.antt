@@ -1,8 +1,10 @@
 -- A reading goes by the lines up to the last one that it looks at: all texts whose first lines are the same
 -- are read the same so far.
-use Rattle.std.proofs.Common.{◌≡◌, ℕ, zero, suc, ◌+◌, ◌<◌, ◌≤◌, cond, Bool, true, false, List, [], ◌∷◌, length, Option, Some, None, Result, Ok, Err, refl, sym, ap, arith, subst}
+use Rattle.std.proofs.Common.{◌≡◌, ℕ, zero, suc, ◌+◌, ◌<◌, ◌≤◌, cond, Bool, true, false, List, [], ◌∷◌, length, Option, Some, None}
+use Rattle.std.proofs.Common.{Result, Ok, Err, refl, sym, ap, arith, subst}
 use Rattle.std.specs.Prelude.{is_some}
-use Rattle.line_reader.specs.Reading.{Left, and_then, give, first_of, next_line, past_first, past_line, fault_at, said_if, past_first_all, past_all, any_lines, maybe_line, onto_said, first_said, each, nothing}
+use Rattle.line_reader.specs.Reading.{Left, and_then, give, first_of, next_line, past_first, past_line, fault_at, said_if}
+use Rattle.line_reader.specs.Reading.{past_first_all, past_all, any_lines, maybe_line, onto_said, first_said, each, nothing}
 use Rattle.report_reader.specs.Reading.{Fault, Reading, taken, line, line_by}
 use Rattle.report_reader.specs.declared.fault.ReportKind.{ReportKind}
 use Rattle.report_reader.specs.declared.fault.ReportKind.TheVariants.{NotText}

@@ -1,5 +1,6 @@
 -- Lines that are in the format are read, one after another.
-use Rattle.std.proofs.Common.{◌≡◌, ℕ, zero, suc, ◌+◌, ◌-◌, min, cond, not, ◌&&◌, Bool, true, false, List, [], ◌∷◌, ◌++◌, length, map, Option, Some, None, Result, Ok, refl, sym, ap, ◌∙◌, arith, subst, append_assoc, length-append}
+use Rattle.std.proofs.Common.{◌≡◌, ℕ, zero, suc, ◌+◌, ◌-◌, min, cond, not, ◌&&◌, Bool, true, false, List, [], ◌∷◌, ◌++◌, length, map}
+use Rattle.std.proofs.Common.{Option, Some, None, Result, Ok, refl, sym, ap, ◌∙◌, arith, subst, append_assoc, length-append}
 use Rattle.std.specs.Prelude.{is_some, option_map}
 use Rattle.std.specs.Str.{bytes_eq}
 use Rattle.std.proofs.lemmas.Bool.{and_parts}
@@ -7,7 +8,8 @@ use Rattle.std.proofs.lemmas.Slice.Eq.{bytes_eq-Decides}
 use Rattle.line_reader.specs.Lines.{words_of}
 use Rattle.line_reader.specs.Fields.{Saying, named, is_name, field, said_by}
 use Rattle.line_reader.specs.Fields as fields
-use Rattle.line_reader.specs.Reading.{Left, and_then, first_of, past_first, past_line, said_if, past_first_all, past_all, onto_said, first_said, each}
+use Rattle.line_reader.specs.Reading.{Left, and_then, first_of, past_first, past_line, said_if, past_first_all, past_all, onto_said}
+use Rattle.line_reader.specs.Reading.{first_said, each}
 use Rattle.text_lines.specs.Forms.{name_of, fields_of, often_of}
 use Rattle.text_lines.specs.declared.forms.LineKind.{LineKind}
 use Rattle.text_lines.specs.declared.forms.FieldKind.{FieldKind}

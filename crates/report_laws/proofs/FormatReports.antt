@@ -1,5 +1,6 @@
 -- A file that is in the format is read.
-use Rattle.std.proofs.Common.{◌≡◌, ℕ, suc, ◌+◌, ◌/◌, ◌≤◌, cond, Bool, true, List, [], ◌∷◌, ◌++◌, length, map, replicate, Some, None, Ok, Err, refl, sym, ap, ◌∙◌, arith, subst, length-append}
+use Rattle.std.proofs.Common.{◌≡◌, ℕ, suc, ◌+◌, ◌/◌, ◌≤◌, cond, Bool, true, List, [], ◌∷◌, ◌++◌, length, map, replicate, Some, None, Ok}
+use Rattle.std.proofs.Common.{Err, refl, sym, ap, ◌∙◌, arith, subst, length-append}
 use Rattle.std.specs.Prelude.{codes}
 use Rattle.std.specs.Str.{bytes_eq}
 use Rattle.std.proofs.lemmas.Bool.{le-ltb}
@@ -16,13 +17,15 @@ use Rattle.report_reader.specs.Events.{number_line, is_thread, event_line, setti
 use Rattle.report_reader.specs.Header.{version_line, options_line, image_line}
 use Rattle.report_reader.specs.Block as spec
 use Rattle.report_reader.specs.Block.{Block, block, lines_of_kinds}
-use Rattle.report_reader.specs.Report.{Report, SharedWords, report_lines, report_in, all_lines, outcome, shared_words, word_lines, part_at_end, with_settings}
+use Rattle.report_reader.specs.Report.{Report, SharedWords, report_lines, report_in, all_lines, outcome, shared_words, word_lines}
+use Rattle.report_reader.specs.Report.{part_at_end, with_settings}
 use Rattle.report_reader.specs.Grammar.{AreOutput, AreEvents, IsBlock, AreBlocks, AreWords, AreReport, IsReportOf, bytes_in}
 use Rattle.report_reader.specs.declared.events.Setting.{Setting}
 use Rattle.report_reader.specs.declared.fault.ReportKind.TheVariants as part
 use Rattle.report_reader.proofs.Passing.{bytes-append}
 use Rattle.report_laws.proofs.FirstLines.{from_line, all_read}
-use Rattle.report_laws.proofs.FormatLines.{behind, read_to, same_place, then_read, lines_then, line_read, line_by_read, HasName, heads, setting_named, other_setting, number_none, kinds_read, out_read, each_read, all_said}
+use Rattle.report_laws.proofs.FormatLines.{behind, read_to, same_place, then_read, lines_then, line_read, line_by_read, HasName, heads}
+use Rattle.report_laws.proofs.FormatLines.{setting_named, other_setting, number_none, kinds_read, out_read, each_read, all_said}
 use Rattle.report_laws.proofs.States.{lines_apart, lines_foreign}
 
 -- ---- a block

@@ -1,5 +1,6 @@
 -- What is printed of a state fits the kinds of its lines.
-use Rattle.std.proofs.Common.{◌≡◌, ℕ, zero, suc, ◌+◌, ◌*◌, ◌/◌, ◌^◌, ◌<◌, ◌≤◌, Bool, true, false, ◌&&◌, cond, List, [], ◌∷◌, ◌++◌, length, map, take, drop, refl, sym, ap, ◌∙◌, arith, subst, nat_lt, lt-ltb, lit<}
+use Rattle.std.proofs.Common.{◌≡◌, ℕ, zero, suc, ◌+◌, ◌*◌, ◌/◌, ◌^◌, ◌<◌, ◌≤◌, Bool, true, false, ◌&&◌, cond, List, [], ◌∷◌, ◌++◌}
+use Rattle.std.proofs.Common.{length, map, take, drop, refl, sym, ap, ◌∙◌, arith, subst, nat_lt, lt-ltb, lit<}
 use Rattle.std.specs.Prelude.{slice_index, codes}
 use Rattle.std.specs.List.{list_all, range_with_len}
 use Rattle.std.specs.Int.{w32, to_be_bytes}
@@ -29,7 +30,8 @@ use Rattle.report_laws.specs.Sizes.{AllShort, HasSizes}
 use Rattle.text_lines.specs.Rows.{Row, numbered_rows}
 use Rattle.report_laws.proofs.Numerals.{are_32}
 use Rattle.report_laws.proofs.StateKinds.{RowsFit, RowsOfStateFit, AllFieldsShort, AreFew, are_apart, are_small, is_foreign, kinds_length}
-use Rattle.report_laws.proofs.Rows.{values_fit, values_few, numbered_fit, numbered_few, bytes_fit, bytes_few, bytes_one, handlers_fit, handlers_few}
+use Rattle.report_laws.proofs.Rows.{values_fit, values_few, numbered_fit, numbered_few, bytes_fit, bytes_few, bytes_one, handlers_fit}
+use Rattle.report_laws.proofs.Rows.{handlers_few}
 
 -- ---- the two versions
 

@@ -124,7 +124,8 @@ module _ (r : Recording) (n : ℕ) (from : Loose) (p : IsPlace r n (loose_state 
     run = (rest_is_rest r.program r.config r.thread r.journal begun (loose_state from) (loose_events from) left p.at).whole
         (loose_state loose) stop
         (subst (λ t. IsRestOfRun r.config t (loose_state from) (loose_events from) left (loose_state loose) stop) thread
-        (subst (λ (k : Config). IsRestOfRun k (loose_thread from) (loose_state from) (loose_events from) left (loose_state loose) stop) config
+        (subst (λ (k : Config). IsRestOfRun k (loose_thread from) (loose_state from) (loose_events from) left (loose_state loose) stop)
+        config
         h.run));
     counts = h.counts;
   }

@@ -34,7 +34,8 @@ start_place r = record {
 pub begun_place : (r : Recording) (k : KeptState) (loose : Loose) → IsKept r.config r.thread 0 (start_state r.program r.config r.thread) k
     → Keeps k (loose_state loose) → IsPlace r 0 (loose_state loose) 0
 begun_place r k loose h keeps =
-    subst (λ (s : State). IsPlace r 0 s 0) (one k (start_state r.program r.config r.thread) (loose_state loose) h.keeps keeps) (start_place r)
+    subst (λ (s : State). IsPlace r 0 s 0) (one k (start_state r.program r.config r.thread) (loose_state loose) h.keeps keeps)
+    (start_place r)
 
 pub start_on_run : (r : Recording) (k : KeptState) → IsKept r.config r.thread 0 (start_state r.program r.config r.thread) k → IsOnRun r k
 start_on_run r k h = kept_on_run r 0 0 (start_state r.program r.config r.thread) k (start_place r) h
@@ -43,7 +44,8 @@ start_count : (r : Recording) → (start_state r.program r.config r.thread).coun
 unfolding start_state
 start_count r = refl
 
-pub start_begins : (r : Recording) (k : KeptState) → IsKept r.config r.thread 0 (start_state r.program r.config r.thread) k → kept_count k ≡ 0
+pub start_begins : (r : Recording) (k : KeptState) → IsKept r.config r.thread 0 (start_state r.program r.config r.thread) k
+    → kept_count k ≡ 0
 start_begins r k h = sym h.keeps.kernel.count ∙ start_count r
 
 -- where it stands is told by its own count
@@ -52,7 +54,8 @@ own_count r n s used p = subst (λ m. IsPlace r m s used) (sym p.counts) p
 
 pub begins_keeping : (r : Recording) (k : KeptState) (later : List KeptState) (loose : Loose) (ticket : ReplayEvents)
     → IsKept r.config r.thread 0 (start_state r.program r.config r.thread) k → Keeps k (loose_state loose) → loose_events loose ≡ 0
-    → loose_config loose ≡ r.config → loose_thread loose ≡ r.thread → ticket ≡ record { thread = r.thread; answered = []; ahead = r.journal }
+    → loose_config loose ≡ r.config → loose_thread loose ≡ r.thread
+    → ticket ≡ record { thread = r.thread; answered = []; ahead = r.journal }
     → later ≡ [] → IsKeeping r later loose ticket
 begins_keeping r k later loose ticket h keeps events config thread is none = record {
   later_on_run = subst (AreOnRun r) (sym none) (λ i d l. absurd (omega (arith, l)));
@@ -96,7 +99,8 @@ module _ (r : Recording) (later : List KeptState) (old : Loose) (before : Replay
         };
       }
 
-  pub kept_more : (k : KeptState) (more : List KeptState) → IsKept (loose_config old) (loose_thread old) (loose_events old) (loose_state old) k
+  pub kept_more : (k : KeptState) (more : List KeptState)
+      → IsKept (loose_config old) (loose_thread old) (loose_events old) (loose_state old) k
       → more ≡ later ++ k ∷ [] → IsKeeping r more old before
   kept_more k more kept grown =
       let its : IsKept r.config r.thread (loose_events old) (loose_state old) k = record {

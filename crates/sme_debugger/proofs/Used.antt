@@ -58,7 +58,8 @@ module _ (journal : List Event) where
       turned_left config thread (reach_from config thread from 0 journal turns) (from_left config thread from turns)
 
 -- of a thread that goes on, the first events of its journal are used, and the others left
-pub left_at : (program : Program) (config : Config) (thread : ℕ) (journal : List Event) (turns : ℕ) (s : State) (used : ℕ) (left : List Event)
+pub left_at : (program : Program) (config : Config) (thread : ℕ) (journal : List Event) (turns : ℕ) (s : State) (used : ℕ)
+    (left : List Event)
     → reach program config thread journal turns ≡ At s used left → AreLeft journal used left
 unfolding reach
 left_at program config thread journal turns s used left e = subst (LeftAt journal) e (from_left journal config thread _ turns)

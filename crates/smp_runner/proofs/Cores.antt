@@ -23,7 +23,8 @@ use Rattle.thread_lists.specs.Counts.{occurrences}
 use Rattle.run_queue.specs.Passes.{known_threads, after_offer, HasFetched}
 use Rattle.run_queue.specs.Rule.{threads_in, AreOf}
 use Rattle.thread_lists.proofs.Sums.{mark_same}
-use Rattle.smp_runner.specs.Contexts.{ticketed_held, residents_in, stopped_in, IsSameCore, HasStopped, IsSameTicketed, Holds, HoldsWith, HasEnded, IsOf}
+use Rattle.smp_runner.specs.Contexts.{ticketed_held, residents_in, stopped_in, IsSameCore, HasStopped, IsSameTicketed, Holds, HoldsWith}
+use Rattle.smp_runner.specs.Contexts.{HasEnded, IsOf}
 use Rattle.smp_runner.proofs.Holding.{IsFrom, starts, got, goes_on, stops, room, collects, is_held, gives, ends, of_known}
 
 some-none : (s : Stop) → Some s ≡ None → ⊥

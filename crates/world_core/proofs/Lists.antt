@@ -1,5 +1,6 @@
 -- Lists of which an item is taken or to which one is added.
-use Rattle.std.proofs.Common.{◌≡◌, ℕ, zero, suc, ◌+◌, ◌<◌, ◌++◌, get_or, List, [], ◌∷◌, map, take, drop, length, refl, ap, sym, ◌∙◌, subst, arith, Some, append_assoc}
+use Rattle.std.proofs.Common.{◌≡◌, ℕ, zero, suc, ◌+◌, ◌<◌, ◌++◌, get_or, List, [], ◌∷◌, map, take, drop, length, refl, ap, sym, ◌∙◌}
+use Rattle.std.proofs.Common.{subst, arith, Some, append_assoc}
 use Rattle.std.specs.Prelude.{slice_get, Contains, ◌==◌, if◌then◌else◌}
 use Rattle.std.proofs.Math.Seq.{drop-cons}
 use Rattle.std.proofs.lemmas.Bool.Decides.{nat_tests}

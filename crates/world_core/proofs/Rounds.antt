@@ -1,5 +1,6 @@
 -- The serial events of a world are the events of rounds, and the events of rounds are the serial events.
-use Rattle.std.proofs.Common.{◌≡◌, ℕ, zero, suc, ◌<◌, ◌≤◌, ◌++◌, Bool, true, false, cond, List, [], ◌∷◌, length, refl, ap, sym, ◌∙◌, subst, arith, append_assoc, Option, Some, None, ◌⊎◌, inl, inr}
+use Rattle.std.proofs.Common.{◌≡◌, ℕ, zero, suc, ◌<◌, ◌≤◌, ◌++◌, Bool, true, false, cond, List, [], ◌∷◌, length, refl, ap, sym, ◌∙◌}
+use Rattle.std.proofs.Common.{subst, arith, append_assoc, Option, Some, None, ◌⊎◌, inl, inr}
 use Rattle.std.specs.Prelude.{slice_get, slice_set, nat_lt, nat_le, ◌&&◌}
 use Rattle.std.proofs.lemmas.Bool.Decides.{nat_tests}
 use Rattle.std.proofs.lemmas.List.{length_push}
@@ -12,7 +13,8 @@ use Rattle.core_unit.specs.declared.run.RunWhy.{RunWhy}
 use Rattle.core_unit.specs.declared.run.RunWhy.TheVariants as why
 use Rattle.world_core.specs.Happens.{Scene, happens, happens_on, next_of, fetched, offer_of, run_of, after_service}
 use Rattle.world_core.specs.Happens.{refused, with_scene, scene_of, world_after}
-use Rattle.world_core.specs.Rounds.{queued, resident, CanFill, IsFilled, fetching, slice_run, IsGivingWay, ByOffer, ByNext, Stays, FollowRun}
+use Rattle.world_core.specs.Rounds.{queued, resident, CanFill, IsFilled, fetching, slice_run, IsGivingWay, ByOffer, ByNext, Stays}
+use Rattle.world_core.specs.Rounds.{FollowRun}
 use Rattle.world_core.specs.Rounds.{IsRound, RoundsLead, events_of_rounds, AreRounds}
 use Rattle.world_core.specs.Serial.{residents_at, event_in, serial_event, phase_by, phase_after, LeadSerially, AreSerial}
 use Rattle.world_core.specs.Serve.{Service, Going, GaveWay, HasStopped, serve, begins}

@@ -1,5 +1,6 @@
 -- The serial events of a world: they come to an end, at which each thread is done.
-use Rattle.std.proofs.Common.{◌≡◌, ℕ, zero, suc, ◌+◌, ◌-◌, ◌*◌, ◌<◌, ◌≤◌, ◌++◌, Bool, true, false, cond, List, [], ◌∷◌, drop, length, refl, ap, sym, ◌∙◌, subst, arith, Option, Some, None}
+use Rattle.std.proofs.Common.{◌≡◌, ℕ, zero, suc, ◌+◌, ◌-◌, ◌*◌, ◌<◌, ◌≤◌, ◌++◌, Bool, true, false, cond, List, [], ◌∷◌, drop, length}
+use Rattle.std.proofs.Common.{refl, ap, sym, ◌∙◌, subst, arith, Option, Some, None}
 use Rattle.std.specs.Prelude.{slice_get, slice_set, nat_lt, nat_le, ◌&&◌, is_some}
 use Rattle.std.proofs.lemmas.Bool.Decides.{nat_tests}
 use Rattle.std.proofs.lemmas.Option.{same_Some, none-some}
@@ -29,7 +30,8 @@ use Rattle.sm_types.specs.declared.world_event.WorldEvent.TheVariants.{Run, Next
 use Rattle.world_core.specs.declared.event.Why.TheVariants.{CoreFull}
 use Rattle.world_core.specs.declared.serial.Phase.{Phase}
 use Rattle.world_core.specs.declared.serial.Phase.TheVariants.{Fills, GivesWay}
-use Rattle.world_core.proofs.Bags.{total_ones, threads-bag, scene_bag, served_guest, served-bag, next-bag, fetched-bag, offer-bag, scene-there, happens-bag}
+use Rattle.world_core.proofs.Bags.{total_ones, threads-bag, scene_bag, served_guest, served-bag, next-bag, fetched-bag, offer-bag}
+use Rattle.world_core.proofs.Bags.{scene-there, happens-bag}
 use Rattle.world_core.proofs.Eachs.{core_here, parts_of}
 use Rattle.world_core.proofs.Lifting.{happens_here}
 

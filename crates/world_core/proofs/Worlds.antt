@@ -1,5 +1,6 @@
 -- Each event keeps a world: each thread is in it once, the history is legal, and each thread stands.
-use Rattle.std.proofs.Common.{◌≡◌, ◌≢◌, ℕ, zero, suc, ◌+◌, ◌<◌, ◌≤◌, ◌++◌, ◌==◌, if◌then◌else◌, Bool, true, false, cond, List, [], ◌∷◌, length, map, refl, ap, sym, ◌∙◌, subst, arith, Option, Some, None, ◌⊎◌, inl, inr}
+use Rattle.std.proofs.Common.{◌≡◌, ◌≢◌, ℕ, zero, suc, ◌+◌, ◌<◌, ◌≤◌, ◌++◌, ◌==◌, if◌then◌else◌, Bool, true, false, cond, List, [], ◌∷◌}
+use Rattle.std.proofs.Common.{length, map, refl, ap, sym, ◌∙◌, subst, arith, Option, Some, None, ◌⊎◌, inl, inr}
 use Rattle.std.specs.Prelude.{slice_get, slice_set, nat_le, nat_lt, replicate, All, is_some}
 use Rattle.std.specs.List.{range_with_len}
 use Rattle.std.specs.List.{AllByRecursion as Each}
@@ -32,7 +33,8 @@ use Rattle.world_core.specs.declared.event.Why.TheVariants.{CoreFull}
 use Rattle.std.proofs.lemmas.List.FromFn.{length-map-range_with_len}
 use Rattle.world_core.specs.Parts.{HasRoom}
 use Rattle.world_core.proofs.Bags.{total_ones, occurrences-numbers, owned_on, threads-bag, total-set, one_of_itself, once_at_most}
-use Rattle.world_core.proofs.Eachs.{each_map, each_last, core_here, core_set, core_more, core_none, EachPart, parts_of, parts_all, each_apart}
+use Rattle.world_core.proofs.Eachs.{each_map, each_last, core_here, core_set, core_more, core_none, EachPart, parts_of, parts_all}
+use Rattle.world_core.proofs.Eachs.{each_apart}
 use Rattle.world_core.proofs.Keeps.{Keeps, KeepsService, keeps, begins_kept}
 
 -- ---- an event that moves threads, or is not enabled

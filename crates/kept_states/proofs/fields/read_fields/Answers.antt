@@ -5,7 +5,8 @@ use Rattle.sm_types.specs.declared.length.VecLen.{VecLen}
 use Rattle.za_array.specs.Array.{IsSquare, ArrayState, zero_vectors}
 use Rattle.mem_access.specs.Bank.{bank_state}
 use Rattle.machine_step.specs.System.{bit_at}
-use Rattle.kept_states.proofs.FieldsRead.{nzcv_low, nzcv_word, modes_below, streaming_told, array_told, same_length, same_array, no_page_list}
+use Rattle.kept_states.proofs.FieldsRead.{nzcv_low, nzcv_word, modes_below, streaming_told, array_told, same_length, same_array}
+use Rattle.kept_states.proofs.FieldsRead.{no_page_list}
 use Rattle.kept_states.proofs.fields.read_fields.Goals as goal
 
 pub returns-clause-fields : goal.returns-clause-fields

@@ -3,7 +3,8 @@ use Rattle.std.proofs.lemmas.Bool.Decides.{nat_tests}
 use Rattle.kernel_contexts.specs.Handlers.{is_signal}
 use Rattle.kernel_contexts.specs.LooseState.{AreHandlers, handler_entry}
 use Rattle.kernel_contexts.specs.declared.loose_state.Handler.{Handler}
-use Rattle.kept_states.proofs.HandlerLists.{begins, passed_over, one_more, all_through, no_handlers, handler_added, lower_still, lower_added, rest_from}
+use Rattle.kept_states.proofs.HandlerLists.{begins, passed_over, one_more, all_through, no_handlers, handler_added, lower_still}
+use Rattle.kept_states.proofs.HandlerLists.{lower_added, rest_from}
 use Rattle.kept_states.proofs.handlers.list_handlers.Goals as goal
 
 pub loop-signal-init : goal.loop-signal-init

@@ -45,5 +45,6 @@ returns-clause-memory c =
 
 pub returns-then-page-eq-SHARED_REGION-clause-private : goal.returns-then-page-eq-SHARED_REGION-clause-private
 returns-then-page-eq-SHARED_REGION-clause-private c =
-    page_of_address c.args.pages.now.memory c.loop-place.place c.in-Some.page.address c.in-Some.page.flags 0x7F0000000 c.in-Some.ensures.entry
+    page_of_address c.args.pages.now.memory c.loop-place.place c.in-Some.page.address c.in-Some.page.flags 0x7F0000000
+    c.in-Some.ensures.entry
     (ap (λ a. a / 4096) c.if-page-eq-SHARED_REGION.true)

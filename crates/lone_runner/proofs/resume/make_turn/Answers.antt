@@ -13,7 +13,8 @@ returns-in-Ran-clause-turn c =
     let new = c.advance.new.self in
     let turn = loose_turned_over _ _ old new _ c.requires.runs e.turn in
     let ahead = c.journal_stays.ensures.ahead _ _ _ _ _ e.gives.chain in
-    events_next (loose_state old) (loose_state new) (loose_events old) (loose_events new) c.args.ticket.now.ahead c.advance.new.ticket.ahead _
+    events_next (loose_state old) (loose_state new) (loose_events old) (loose_events new) c.args.ticket.now.ahead c.advance.new.ticket.ahead
+    _
     (loose_turn old) (loose_made old new) turn.0 e.grows (made_ahead (loose_thread old) (loose_made old new) _ _ ahead)
 
 pub returns-in-Yielded-clause-turn : goal.returns-in-Yielded-clause-turn
@@ -23,7 +24,8 @@ returns-in-Yielded-clause-turn c =
     let new = c.advance.new.self in
     let turn = loose_turned_over _ _ old new _ c.requires.runs e.turn in
     let ahead = c.journal_stays.ensures.ahead _ _ _ _ _ e.gives.chain in
-    let same = none_used (loose_events old) (loose_events new) c.args.ticket.now.ahead c.advance.new.ticket.ahead (loose_made old new) e.grows
+    let same = none_used (loose_events old) (loose_events new) c.args.ticket.now.ahead c.advance.new.ticket.ahead (loose_made old new)
+    e.grows
     (made_ahead (loose_thread old) (loose_made old new) _ _ ahead) turn.1 in
     ap (after_turn (loose_state old) (loose_events old) c.args.ticket.now.ahead) turn.0
     ∙ (λ i. At (loose_state new) (same.0 i) (same.1 i))
@@ -35,7 +37,8 @@ returns-in-Stopped-clause-turn c =
     let new = c.advance.new.self in
     let turn = loose_turned_over _ _ old new _ c.requires.runs e.turn in
     let ahead = c.journal_stays.ensures.ahead _ _ _ _ _ e.gives.chain in
-    let same = none_used (loose_events old) (loose_events new) c.args.ticket.now.ahead c.advance.new.ticket.ahead (loose_made old new) e.grows
+    let same = none_used (loose_events old) (loose_events new) c.args.ticket.now.ahead c.advance.new.ticket.ahead (loose_made old new)
+    e.grows
     (made_ahead (loose_thread old) (loose_made old new) _ _ ahead) turn.1 in
     ap (after_turn (loose_state old) (loose_events old) c.args.ticket.now.ahead) turn.0
     ∙ (λ i. Ended (loose_state new) c.in-Stopped.stop (same.0 i) (same.1 i))
@@ -47,7 +50,8 @@ returns-in-TraceDiffers-clause-astray c = λ _.
     let new = c.advance.new.self in
     let turn = loose_turned_over _ _ old new _ c.requires.runs e.turn in
     let ahead = c.journal_stays.ensures.ahead _ _ _ _ _ e.gives.chain in
-    let same = none_used (loose_events old) (loose_events new) c.args.ticket.now.ahead c.advance.new.ticket.ahead (loose_made old new) e.grows
+    let same = none_used (loose_events old) (loose_events new) c.args.ticket.now.ahead c.advance.new.ticket.ahead (loose_made old new)
+    e.grows
     (made_ahead (loose_thread old) (loose_made old new) _ _ ahead) turn.2 in
     record {
       strays = strays_astray c.args.ticket.now (loose_state old) (loose_events old) (loose_turn old) turn.0;
@@ -59,29 +63,35 @@ returns-in-TraceDiffers-clause-astray c = λ _.
 pub returns-in-Ran-clause-whole : goal.returns-in-Ran-clause-whole
 returns-in-Ran-clause-whole c =
     let chain = c.in-Ran.ensures.gives.chain in
-    whole_stays _ c.args.ticket.now c.advance.new.ticket (c.journal_stays.ensures.ahead _ _ _ _ _ chain) (c.journal_stays.ensures.answered _ _ _ _ _ chain)
+    whole_stays _ c.args.ticket.now c.advance.new.ticket (c.journal_stays.ensures.ahead _ _ _ _ _ chain)
+    (c.journal_stays.ensures.answered _ _ _ _ _ chain)
 
 pub returns-in-Yielded-clause-whole : goal.returns-in-Yielded-clause-whole
 returns-in-Yielded-clause-whole c =
     let chain = c.in-Yielded.ensures.gives.chain in
-    whole_stays _ c.args.ticket.now c.advance.new.ticket (c.journal_stays.ensures.ahead _ _ _ _ _ chain) (c.journal_stays.ensures.answered _ _ _ _ _ chain)
+    whole_stays _ c.args.ticket.now c.advance.new.ticket (c.journal_stays.ensures.ahead _ _ _ _ _ chain)
+    (c.journal_stays.ensures.answered _ _ _ _ _ chain)
 
 pub returns-in-Stopped-clause-whole : goal.returns-in-Stopped-clause-whole
 returns-in-Stopped-clause-whole c =
     let chain = c.in-Stopped.ensures.gives.chain in
-    whole_stays _ c.args.ticket.now c.advance.new.ticket (c.journal_stays.ensures.ahead _ _ _ _ _ chain) (c.journal_stays.ensures.answered _ _ _ _ _ chain)
+    whole_stays _ c.args.ticket.now c.advance.new.ticket (c.journal_stays.ensures.ahead _ _ _ _ _ chain)
+    (c.journal_stays.ensures.answered _ _ _ _ _ chain)
 
 pub returns-in-TraceEnds-clause-whole : goal.returns-in-TraceEnds-clause-whole
 returns-in-TraceEnds-clause-whole c =
     let chain = c.in-TraceEnds.ensures.gives.chain in
-    whole_stays _ c.args.ticket.now c.advance.new.ticket (c.journal_stays.ensures.ahead _ _ _ _ _ chain) (c.journal_stays.ensures.answered _ _ _ _ _ chain)
+    whole_stays _ c.args.ticket.now c.advance.new.ticket (c.journal_stays.ensures.ahead _ _ _ _ _ chain)
+    (c.journal_stays.ensures.answered _ _ _ _ _ chain)
 
 pub returns-in-TraceDiffers-clause-whole : goal.returns-in-TraceDiffers-clause-whole
 returns-in-TraceDiffers-clause-whole c =
     let chain = c.in-TraceDiffers.ensures.gives.chain in
-    whole_stays _ c.args.ticket.now c.advance.new.ticket (c.journal_stays.ensures.ahead _ _ _ _ _ chain) (c.journal_stays.ensures.answered _ _ _ _ _ chain)
+    whole_stays _ c.args.ticket.now c.advance.new.ticket (c.journal_stays.ensures.ahead _ _ _ _ _ chain)
+    (c.journal_stays.ensures.answered _ _ _ _ _ chain)
 
 pub returns-in-Memory-clause-whole : goal.returns-in-Memory-clause-whole
 returns-in-Memory-clause-whole c =
     let chain = c.in-Memory.ensures.gives.chain in
-    whole_stays _ c.args.ticket.now c.advance.new.ticket (c.journal_stays.ensures.ahead _ _ _ _ _ chain) (c.journal_stays.ensures.answered _ _ _ _ _ chain)
+    whole_stays _ c.args.ticket.now c.advance.new.ticket (c.journal_stays.ensures.ahead _ _ _ _ _ chain)
+    (c.journal_stays.ensures.answered _ _ _ _ _ chain)

@@ -24,7 +24,8 @@ resume_to_end-requires c =
 pub returns-clause-run : goal.returns-clause-run
 returns-clause-run c =
     let ahead = ap (λ (t : ReplayEvents). t.ahead) c.new-ticket.ensures ∙ c.in_ok-events.ensures.items in
-    subst (λ (l : List Event). IsResumed c.args.loose l c.args.count c.resume_to_end.new.loose c.in_ok-stop.stop) ahead c.in_ok-stop.ensures.run
+    subst (λ (l : List Event). IsResumed c.args.loose l c.args.count c.resume_to_end.new.loose c.in_ok-stop.stop) ahead
+    c.in_ok-stop.ensures.run
 
 pub returns-in_err-stop-clause-parts : goal.returns-in_err-stop-clause-parts
 returns-in_err-stop-clause-parts c =

@@ -42,7 +42,8 @@ turns-preserved c =
       config = e.same.config ∙ h.same.config;
       thread = e.same.thread ∙ h.same.thread;
     } in
-    let coming = coming_on c.args.loose.now c.args.ticket.now.ahead c.args.count c.turns.loose c.turns.ticket h.same h.coming less mid ticket
+    let coming = coming_on c.args.loose.now c.args.ticket.now.ahead c.args.count c.turns.loose c.turns.ticket h.same h.coming less mid
+    ticket
     (e.turn ∙ ap (loose_place mid ticket) c.in_default.is) in
     record {
       coming = coming_goes_on c.args.loose.now c.args.ticket.now.ahead c.args.count mid last ticket c.advance_several.result same f.turns
@@ -66,7 +67,8 @@ returns-then-made-count-clause-parts c = λ _.
     let mid = c.make_turn.new.loose in
     let ticket = c.make_turn.new.ticket in
     let less : (loose_state c.turns.loose).count < c.args.count = subst (λ n. n < c.args.count) c.count.ensures c.turns-test.true in
-    subst (λ n. IsPartingFromAll c.args.loose.now c.args.ticket.now.ahead c.args.count (EndsEarly n c.in-Some.stop)) (sym c.count-made.ensures)
+    subst (λ n. IsPartingFromAll c.args.loose.now c.args.ticket.now.ahead c.args.count (EndsEarly n c.in-Some.stop))
+    (sym c.count-made.ensures)
     (coming_ends c.args.loose.now c.args.ticket.now.ahead c.args.count c.turns.loose c.turns.ticket h.same h.coming less mid ticket
     c.in-Some.stop
     (e.turn ∙ ap (loose_place mid ticket) c.in-Some.is)
@@ -104,6 +106,7 @@ overflow_sub-count c =
     let mid = c.make_turn.new.loose in
     let ticket = c.make_turn.new.ticket in
     let less : (loose_state c.turns.loose).count < c.args.count = subst (λ n. n < c.args.count) c.count.ensures c.turns-test.true in
-    let coming = coming_on c.args.loose.now c.args.ticket.now.ahead c.args.count c.turns.loose c.turns.ticket h.same h.coming less mid ticket
+    let coming = coming_on c.args.loose.now c.args.ticket.now.ahead c.args.count c.turns.loose c.turns.ticket h.same h.coming less mid
+    ticket
     (e.turn ∙ ap (loose_place mid ticket) c.in_default.is) in
     omega (arith, coming.most, c.count-now.ensures)

@@ -25,7 +25,8 @@ returns-in_err-stop-clause-parts c =
     let from = c.args.loose.now in
     let fault = c.in_err-stop.field-0.0 in
     let parts : fault ≢ Memory
-    → IsPartingFrom (loose_config from) (loose_thread from) (loose_state from) (loose_events from) c.args.ticket.now.ahead c.args.count fault =
+    → IsPartingFrom (loose_config from) (loose_thread from) (loose_state from) (loose_events from) c.args.ticket.now.ahead c.args.count
+    fault =
     λ told. resume_strays from c.args.ticket.now.ahead c.args.count c.turns.loose c.turns.ticket h.same h.way fault
     (c.in_err-stop.ensures.astray told) in
     search rules
@@ -35,7 +36,8 @@ returns-in-Some-clause-parts c = λ _.
     let h = c.turns.invariant in
     resume_parts c.args.loose.now c.args.ticket.now.ahead c.args.count c.turns.loose c.turns.ticket h.same h.way _ c.in-Some.fault
     c.in_ok-stop.ensures.turn
-    (parted_at c.args.count c.make_turn.new.loose c.make_turn.new.ticket _ _ _ c.count.ensures (sym (c.parting_of.ensures c.make_turn.new.ticket.ahead (sym c.left.ensures)) ∙ c.in-Some.is))
+    (parted_at c.args.count c.make_turn.new.loose c.make_turn.new.ticket _ _ _ c.count.ensures
+    (sym (c.parting_of.ensures c.make_turn.new.ticket.ahead (sym c.left.ensures)) ∙ c.in-Some.is))
 
 pub returns-in-Some-stop-clause-run : goal.returns-in-Some-stop-clause-run
 returns-in-Some-stop-clause-run c =
@@ -47,7 +49,8 @@ returns-in-Some-stop-clause-run c =
     resume_ends c.args.loose.now c.args.ticket.now.ahead c.args.count c.turns.loose c.turns.ticket h.same h.way new ticket _
     (e.turn ∙ ap (loose_place new ticket) is)
     (ap (λ o. parting_at c.args.count (loose_place new ticket o)) (sym is)
-    ∙ parted_at c.args.count new ticket _ _ _ c.count.ensures (sym (c.parting_of.ensures c.make_turn.new.ticket.ahead (sym c.left.ensures)) ∙ c.in-None.is))
+    ∙ parted_at c.args.count new ticket _ _ _ c.count.ensures
+    (sym (c.parting_of.ensures c.make_turn.new.ticket.ahead (sym c.left.ensures)) ∙ c.in-None.is))
 
 pub turns-preserved : goal.turns-preserved
 turns-preserved c =
@@ -64,7 +67,8 @@ turns-preserved c =
     } in
     let none_parts : parting_at c.args.count (loose_place mid ticket None) ≡ None =
     ap (λ o. parting_at c.args.count (loose_place mid ticket o)) (sym none)
-    ∙ parted_at c.args.count mid ticket _ _ _ c.count.ensures (sym (c.parting_of.ensures c.make_turn.new.ticket.ahead (sym c.left.ensures)) ∙ c.in-None.is) in
+    ∙ parted_at c.args.count mid ticket _ _ _ c.count.ensures
+    (sym (c.parting_of.ensures c.make_turn.new.ticket.ahead (sym c.left.ensures)) ∙ c.in-None.is) in
     record {
       way = resume_goes_on c.args.loose.now c.args.ticket.now.ahead c.args.count mid last ticket c.advance_several.result same f.turns
           f.events

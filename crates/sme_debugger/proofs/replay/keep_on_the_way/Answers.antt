@@ -49,12 +49,14 @@ states-preserved c =
     let most = inv.most in
     let next = c.states.next + c.from-distance.result in
     let e = c.in_ok-stop.ensures in
-    let reached = subst (λ (o : Option Stop). IsReached c.states.loose c.states.ticket.ahead next c.resume_to.new.loose o c.resume_to.new.ticket)
+    let reached = subst (λ (o : Option Stop).
+    IsReached c.states.loose c.states.ticket.ahead next c.resume_to.new.loose o c.resume_to.new.ticket)
     c.in-None.is e.reached in
     let counts = reached.counts in
     record {
       keeping = λ r h. c.keep_state.ensures r c.resume_to.new.ticket
-          (keeping_on r c.states.later.items c.states.loose c.states.ticket (inv.keeping r h) next c.resume_to.new.loose c.resume_to.new.ticket
+          (keeping_on r c.states.later.items c.states.loose c.states.ticket (inv.keeping r h) next c.resume_to.new.loose
+          c.resume_to.new.ticket
           (omega (arith, most)) reached (e.stop ∙ c.in-None.is) e.same e.whole e.ticket);
       held = e.ticket;
       runs = e.stop ∙ c.in-None.is;
@@ -68,7 +70,8 @@ returns-then-not-keep_state-clause-keeps c = λ r h.
     let most = inv.most in
     let next = c.states.next + c.from-distance.result in
     let e = c.in_ok-stop.ensures in
-    let reached = subst (λ (o : Option Stop). IsReached c.states.loose c.states.ticket.ahead next c.resume_to.new.loose o c.resume_to.new.ticket)
+    let reached = subst (λ (o : Option Stop).
+    IsReached c.states.loose c.states.ticket.ahead next c.resume_to.new.loose o c.resume_to.new.ticket)
     c.in-None.is e.reached in
     c.keep_state.ensures r c.resume_to.new.ticket
     (keeping_on r c.states.later.items c.states.loose c.states.ticket (inv.keeping r h) next c.resume_to.new.loose c.resume_to.new.ticket

@@ -7,7 +7,8 @@ use Rattle.sme_debugger.proofs.replay.keep_on_the_way.Given as goal
 
 abbrev pub invariant-states : goal.invariant-states
 invariant-states l = record {
-  keeping : (r : Recording) → IsKeeping r l.initial.later.items l.initial.loose l.initial.ticket → IsKeeping r l.later.items l.loose l.ticket;
+  keeping : (r : Recording) → IsKeeping r l.initial.later.items l.initial.loose l.initial.ticket
+      → IsKeeping r l.later.items l.loose l.ticket;
   held : HasLooseTicket l.loose l.ticket;
   runs : loose_stop l.loose ≡ None;
   most : (loose_state l.loose).count ≤ l.next;

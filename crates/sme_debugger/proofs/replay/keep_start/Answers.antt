@@ -12,7 +12,8 @@ pub unreachable-requires : goal.unreachable-requires
 unreachable-requires c =
     let context = c.in_ok-context.context in
     let e = c.in_ok-context.ensures in
-    subst (λ (o : Option KeptState). IfNone o (MayBeKept (config_of context) (state_of context) → ⊥)) c.in-None.is c.in_ok-found.ensures.none
+    subst (λ (o : Option KeptState). IfNone o (MayBeKept (config_of context) (state_of context) → ⊥)) c.in-None.is
+    c.in_ok-found.ensures.none
     (subst (λ (s : State). MayBeKept (config_of context) s) (sym e.state)
     (subst (λ (k : Config). MayBeKept k (start_state c.args.image.now c.args.config.now c.args.thread)) (sym e.config)
     (start_kept c.args.image.now c.args.config.now c.args.thread c.requires.private)))

@@ -31,7 +31,8 @@ loop-whole-init c =
       order = ap (map (λ x. thread_of x)) all ∙ map-map (λ x. thread_of x) (λ w. w.context) sorted.items ∙ order;
       ended = subst (All (IsAtItsStop c.args.image.now c.args.config.now)) (sym all)
           (All-map (IsAtItsStop c.args.image.now c.args.config.now) (λ w. w.context) sorted.items
-          (All-permutation (λ w. IsAtItsStop c.args.image.now c.args.config.now w.context) _ sorted.items c.sort_by_number.ensures.same c.requires.ended));
+          (All-permutation (λ w. IsAtItsStop c.args.image.now c.args.config.now w.context) _ sorted.items c.sort_by_number.ensures.same
+          c.requires.ended));
       named = subst (All (λ w. seat_name w.ticket ≡ table_name c.args.table.now)) (sym rest)
           (All-permutation (λ w. seat_name w.ticket ≡ table_name c.args.table.now) _ sorted.items c.sort_by_number.ensures.same
           c.requires.named);

@@ -16,7 +16,9 @@ pub returns-clause-ends : goal.returns-clause-ends
 returns-clause-ends g c is = goes _ (λ op. c.requires.goes _ _ op) c.args.whole.now.context c.advance.new.self _ _ c.advance.ensures.turn is
 
 pub returns-clause-bank : goal.returns-clause-bank
-returns-clause-bank g c is = at_home _ (λ op. c.requires.goes _ _ op) c.args.whole.now.context c.advance.new.self _ _ c.advance.ensures.turn is
+returns-clause-bank g c is = at_home _ (λ op. c.requires.goes _ _ op) c.args.whole.now.context c.advance.new.self _ _ c.advance.ensures.turn
+    is
 
 pub returns-clause-strays : goal.returns-clause-strays
-returns-clause-strays g c is = agrees _ (λ op. c.requires.goes _ _ op) c.args.whole.now.context c.advance.new.self _ _ c.advance.ensures.turn is
+returns-clause-strays g c is = agrees _ (λ op. c.requires.goes _ _ op) c.args.whole.now.context c.advance.new.self _ _
+    c.advance.ensures.turn is

@@ -1,5 +1,6 @@
 use Rattle.std.proofs.Common.{◌∙◌}
-use Rattle.sme_debugger.proofs.Standings.{few_still, ends_still, start_still, later_still, shown_still, none_shown, to_resume, comes_to, never_parts}
+use Rattle.sme_debugger.proofs.Standings.{few_still, ends_still, start_still, later_still, shown_still, none_shown, to_resume, comes_to}
+use Rattle.sme_debugger.proofs.Standings.{never_parts}
 use Rattle.sme_debugger.proofs.Standings.{rerecorded}
 use Rattle.sme_debugger.proofs.replay.Replay.go_on.Goals as goal
 
@@ -24,7 +25,8 @@ invariant_of-self c =
         number = e.ticket.number ∙ e.same.thread ∙ s.of_run.thread_is;
       };
       shows = shown_still s after e.whole c.args.count c.resume_to.new.loose c.in-Ok.stop
-          (comes_to s c.args.count c.requires.way (c.shows.ensures.apart c.if-shows.false) c.resume_to.new.loose c.in-Ok.stop after e.reached e.stop);
+          (comes_to s c.args.count c.requires.way (c.shows.ensures.apart c.if-shows.false) c.resume_to.new.loose c.in-Ok.stop after
+          e.reached e.stop);
     }
 
 pub invariant_of-self-in-Err-1 : goal.invariant_of-self-in-Err-1

@@ -10,7 +10,8 @@ use Rattle.world_core.proofs.world.World.close.Goals as goal
 
 pub invariant_of-result : goal.invariant_of-result
 invariant_of-result c = record {
-  home = all_home (λ x. x.context) (λ x. x.home) c.sort_by_number.new.threads.items c.in_ok-contexts.contexts.items c.in_ok-contexts.ensures;
+  home = all_home (λ x. x.context) (λ x. x.home) c.sort_by_number.new.threads.items c.in_ok-contexts.contexts.items
+      c.in_ok-contexts.ensures;
 }
 
 pub returns : goal.returns
