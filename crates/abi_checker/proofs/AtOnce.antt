@@ -1,5 +1,6 @@
 -- A thread that is followed over turns that are made at once.
-use Rattle.std.proofs.Common.{inl, inr, ◌≡◌, ℕ, zero, suc, ◌+◌, ◌-◌, ◌*◌, ◌<◌, ◌≤◌, ◌^◌, List, length, Option, Some, None, true, refl, ap, sym}
+use Rattle.std.proofs.Common.{inl, inr, ◌≡◌, ℕ, zero, suc, ◌+◌, ◌-◌, ◌*◌, ◌<◌, ◌≤◌, ◌^◌, List, length, Option, Some, None, true, refl}
+use Rattle.std.proofs.Common.{ap, sym}
 use Rattle.std.proofs.Common.{◌∙◌, subst, arith, false}
 use Rattle.std.specs.Prelude.{is_some, min}
 use Rattle.sm_types.specs.declared.config.Config.{Config}
@@ -16,8 +17,6 @@ use Rattle.kernel_contexts.specs.declared.context.Context.{Context}
 use Rattle.lone_runner.specs.Parting.{parting_at}
 use Rattle.lone_runner.proofs.Partings.{compared}
 use Rattle.lone_runner.proofs.Several.{way_goes_on, gone_at, not_passed, up_to_count}
-use Rattle.abi_checker.specs.Marks.{word_in}
-use Rattle.abi_checker.specs.Near.{is_near}
 use Rattle.abi_checker.specs.Straight.{KeepsCode}
 use Rattle.abi_checker.specs.Checked.{states_of}
 use Rattle.abi_checker.specs.Whole.{IsWholeWith, IsWholeAt}
@@ -25,24 +24,13 @@ use Rattle.abi_checker.specs.Watching.{IsWatched, IsPast}
 use Rattle.abi_checker.specs.Following.{GoesFar, IsFollowed, IsFollowedBySome, IsSomewhereWith, IsUnderWay}
 use Rattle.abi_checker.specs.Planning.{IsPlanned, IsOfBlock, IsOfOne}
 use Rattle.abi_checker.specs.declared.abi.Abi.{Abi}
-use Rattle.abi_checker.specs.declared.abi.Abi.TheVariants.{Yes, No}
 use Rattle.abi_checker.specs.declared.blocks.Next.{Next}
 use Rattle.abi_checker.specs.declared.watch.Watch.{Watch}
-use Rattle.abi_checker.proofs.Executed.{either_turn}
 use Rattle.abi_checker.proofs.Followed.{now_state, past_counted}
+use Rattle.abi_checker.proofs.Keeps.{counted_keeps}
 use Rattle.abi_checker.proofs.WholeStates.{whole_at}
-use Rattle.abi_checker.proofs.Staying.{blocks_stay}
-use Rattle.abi_checker.proofs.Settled.{none_settles}
-use Rattle.abi_checker.proofs.Went.{went_uncalled}
-use Rattle.abi_checker.proofs.Quiet.{AreCounted, are_counted, run_after, no_call, code_each, watched_each}
-
--- a fault that was told is told later
-pub told_later : (run : ℕ → State) (n k : ℕ) (watch : Watch) (abi : Abi) → IsUnderWay run n watch (Some abi)
-    → IsUnderWay run (n + k) watch (Some abi)
-told_later run n k watch (Yes calls unreturned) h = absurd h
-told_later run n k watch (No count pc kind) h =
-    let within = h.within in
-    record { at = h.at; within = omega (arith, within); first = h.first; counts = h.counts; place = h.place }
+use Rattle.abi_checker.proofs.Passed.{told_later}
+use Rattle.abi_checker.proofs.Quiet.{AreCounted, are_counted, run_after, no_mark, watched_each}
 
 module _ (program : Program) (config : Config) (thread : ℕ) (journal : List Event) (count : ℕ) (old : Context) (ticket : ReplayEvents)
     (same : config_of old ≡ config) (is : thread_of old ≡ thread) (watch : Watch) (found : Option Abi)
@@ -102,15 +90,14 @@ module _ (program : Program) (config : Config) (thread : ℕ) (journal : List Ev
       (few : n ≤ next.most) (later : Watch) (told : Option Abi)
       (tells : (run : ℕ → State) (m : ℕ) → IsUnderWay run m mid None → run (suc m) ≡ state_of new → IsPast (run m) (run (suc m)) next.call
       → (run m).count ≤ (run (suc m)).count → IsWholeAt run (suc m)
-      → (next.keeps ≡ true → KeepsCode (run m).core.memory (run (suc m)).core.memory) → IsUnderWay run (suc m) later told)
+      → KeepsCode (run m).core.memory (run (suc m)).core.memory → IsUnderWay run (suc m) later told)
       (own : config_of new ≡ config) (whole : IsWholeWith (vector_bytes (config_of new).svl) (state_of new).core) where
     last_whole : IsWholeAt run (here + n)
     last_whole = whole_at program config thread journal (here + n) (state_of new) (config_of new) after own whole
 
     last_told : (k : ℕ) → n ≡ suc k → IsWatched run (here + k) mid → IsPast (run (here + k)) (run (here + suc k)) next.call
-        → (next.keeps ≡ true → KeepsCode (run (here + k)).core.memory (run (here + suc k)).core.memory)
         → IsUnderWay run (here + n) later told
-    last_told k e watched past code =
+    last_told k e watched past =
         let more : here + suc k ≡ suc (here + k) = omega arith in
         let all : here + n ≡ suc (here + k) = omega (arith, e) in
         let grows = counted.counts k (omega (arith, e)) in
@@ -119,7 +106,9 @@ module _ (program : Program) (config : Config) (thread : ℕ) (journal : List Ev
         (subst (λ i. IsPast (run (here + k)) (run i) next.call) more past)
         (subst (λ i. (run (here + k)).count ≤ (run i).count) more (omega (arith, grows)))
         (subst (λ i. IsWholeAt run i) all last_whole)
-        (λ t. subst (λ i. KeepsCode (run (here + k)).core.memory (run i).core.memory) more (code t)))
+        (subst (λ i. KeepsCode (run (here + k)).core.memory (run i).core.memory) more
+        (counted_keeps config thread (length (journal_of old)) (run (here + k)) (run (here + suc k))
+        (counted.goes k (omega (arith, e))) grows)))
 
     block_told : (k : ℕ) → n ≡ suc k → IsOfBlock mid.near (run here) next → IsUnderWay run (here + n) later told
     block_told k e b =
@@ -127,8 +116,7 @@ module _ (program : Program) (config : Config) (thread : ℕ) (journal : List Ev
         last_told k e
         (watched_each config thread (length (journal_of old)) run here n counted mid next.most few b.block w k less)
         (subst (λ o. IsPast (run (here + k)) (run (here + suc k)) o) (sym b.call)
-        (no_call config thread (length (journal_of old)) run here n counted mid next.most few b.block k less))
-        (λ _. code_each config thread (length (journal_of old)) run here n counted mid next.most few b.block k less)
+        (no_mark config thread (length (journal_of old)) run here n counted mid next.most few b.block k less))
 
     one_told : (k : ℕ) → n ≡ suc k → IsOfOne (run here) next → IsUnderWay run (here + n) later told
     one_told k e b =
@@ -141,10 +129,6 @@ module _ (program : Program) (config : Config) (thread : ℕ) (journal : List Ev
         (subst (λ i. IsPast (run i) (run (here + suc k)) next.call) (sym none)
         (past_counted (run here) (run (here + suc k)) next.call b.calls b.none
         (subst (λ i. (run (here + suc k)).count ≡ suc (run i).count) none grows)))
-        (λ t.
-        let word = b.keeps t in
-        either_turn config thread (length (journal_of old)) (run (here + k)) (run (here + suc k)) (counted.goes k less) grows word.0
-        (subst (λ i. word_in (run i).core.memory (run i).core.scalars.pc ≡ Some word.0) (sym none) word.1) word.2)
 
     some_turn : (m : ℕ) → (m ≡ 0 → ⊥) → (k : ℕ) × (m ≡ suc k)
     some_turn zero f = absurd (f refl)
@@ -254,7 +238,7 @@ module _ (program : Program) (config : Config) (thread : ℕ) (journal : List Ev
       (later : Watch) (found : Option Abi)
       (tells : (run : ℕ → State) (m : ℕ) → IsUnderWay run m mid None → run (suc m) ≡ state_of new
       → IsPast (run m) (run (suc m)) next.call → (run m).count ≤ (run (suc m)).count → IsWholeAt run (suc m)
-      → (next.keeps ≡ true → KeepsCode (run m).core.memory (run (suc m)).core.memory) → IsUnderWay run (suc m) later found)
+      → KeepsCode (run m).core.memory (run (suc m)).core.memory → IsUnderWay run (suc m) later found)
       (whole : IsWholeWith (vector_bytes (config_of new).svl) (state_of new).core) (some : n ≡ 0 → ⊥) where
     pub round_followed : IsFollowed program config thread journal count new ticket later found
     round_followed =
@@ -269,33 +253,6 @@ module _ (program : Program) (config : Config) (thread : ℕ) (journal : List Ev
     pub round_quiet : is_some found ≡ false → IsFollowed program config thread journal count new ticket later None
     round_quiet quiet =
         subst (λ o. IsFollowed program config thread journal count new ticket later o) (none_of found quiet) round_followed
-
--- nothing is told after turns that are quiet, where no call comes back
-quiet_tells : (new : Context) (mid : Watch) (next : Next) → next.keeps ≡ true → next.call ≡ None
-    → is_near mid.near (state_of new).core.scalars.pc ≡ false → (run : ℕ → State) (m : ℕ) → IsUnderWay run m mid None
-    → run (suc m) ≡ state_of new → IsPast (run m) (run (suc m)) next.call → (run m).count ≤ (run (suc m)).count
-    → IsWholeAt run (suc m) → (next.keeps ≡ true → KeepsCode (run m).core.memory (run (suc m)).core.memory)
-    → IsUnderWay run (suc m) mid None
-quiet_tells new mid next keeps call away run m w e past grows whole code =
-    went_uncalled run m mid (state_of new) w e grows
-    (blocks_stay mid.near (run m).core.memory (state_of new).core.memory mid.blocks.known
-    (subst (λ (s : State). KeepsCode (run m).core.memory s.core.memory) e (code keeps)) w.known)
-    mid (none_settles (state_of new) mid w.near away) (λ c p r. whole)
-    (subst (λ o. IsPast (run m) (run (suc m)) o) call past)
-
-module _ (program : Program) (config : Config) (thread : ℕ) (journal : List Event) (count : ℕ) (old : Context) (ticket : ReplayEvents)
-    (same : config_of old ≡ config) (is : thread_of old ≡ thread) (watch : Watch)
-    (h : IsFollowed program config thread journal count old ticket watch None) (new : Context) (n least told : ℕ)
-    (e : AdvancesSeveral least old new n) (mid : Watch) (next : Next) (counts : told ≡ (state_of old).count)
-    (few : least ≡ min next.most (count - told))
-    (watched : (run : ℕ → State) (m : ℕ) → IsWatched run m watch → run m ≡ state_of old → IsWatched run m mid)
-    (planned : (run : ℕ → State) (m : ℕ) → IsWatched run m watch → run m ≡ state_of old → IsPlanned mid.near (run m) next)
-    (whole : IsWholeWith (vector_bytes (config_of new).svl) (state_of new).core) (some : n ≡ 0 → ⊥)
-    (keeps : next.keeps ≡ true) (call : next.call ≡ None) (away : is_near mid.near (state_of new).core.scalars.pc ≡ false) where
-  pub round_passes : IsFollowed program config thread journal count new ticket mid None
-  round_passes =
-      round_followed program config thread journal count old ticket same is watch h new n least told e mid next counts few watched
-      planned mid None (quiet_tells new mid next keeps call away) whole some
 
 -- a fault was told, and the turns go on
 found_later : (run : ℕ → State) (n k : ℕ) (watch : Watch) (found : Option Abi) → is_some found ≡ true → IsUnderWay run n watch found

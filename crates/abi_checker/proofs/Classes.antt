@@ -1,11 +1,11 @@
--- What the instructions of plain words and of jumps are, by the tables.
-use Rattle.std.proofs.Common.{◌⊎◌, inl, inr, ◌≡◌, ℕ, Bool, true, false, cond, ◌==◌, ◌&&◌, ◌||◌, List, [], ◌∷◌, Option, Some, None, refl, ap, sym, ◌∙◌}
-use Rattle.std.proofs.Common.{subst, eqb-true, eq-eqb, ℤ}
-use Rattle.std.specs.Prelude.{not, bit_and, unwrap_or}
+-- What the instructions of plain words are, by the tables.
+use Rattle.std.proofs.Common.{◌⊎◌, inl, inr, ◌≡◌, ℕ, Bool, true, false, cond, ◌==◌, ◌&&◌, ◌||◌, List, [], ◌∷◌, Option, Some, None, refl}
+use Rattle.std.proofs.Common.{ap, sym, ◌∙◌}
+use Rattle.std.proofs.Common.{subst, eqb-true, ℤ}
+use Rattle.std.specs.Prelude.{bit_and, unwrap_or}
 use Rattle.std.specs.List.{list_all}
 use Rattle.std.specs.Option.{option_or}
 use Rattle.std.proofs.lemmas.Bool.{and_parts, cases_Bool}
-use Rattle.std.proofs.lemmas.Nat.{and_assoc}
 use Rattle.sm_types.specs.declared.insn.Insn.{Insn}
 use Rattle.sm_types.specs.declared.insn.Insn.TheVariants as insn
 use Rattle.sm_types.specs.declared.insn.System.{System}
@@ -27,9 +27,9 @@ use Rattle.sve_table.specs.declared.rows.TheConstants.{VECTOR_LINES}
 use Rattle.sve_table.specs.Named.{named as vector_named}
 use Rattle.sve_table.specs.Table.{vector, vector_meaning_of}
 use Rattle.a64_encode.specs.Either.{instruction_of}
-use Rattle.abi_checker.specs.Straight.{has_bits, is_plain_word, is_jump_word}
+use Rattle.abi_checker.specs.Straight.{has_bits, is_plain_word}
 
--- ---- plain instructions, and jumps
+-- ---- plain instructions
 
 -- after the instruction PC goes on by 4, and of memory it changes no more than it may write
 abbrev pub is_quiet_system : System → Bool
@@ -47,11 +47,6 @@ is_plain_insn (insn.BranchRegister x) = false
 is_plain_insn (insn.System x) = is_quiet_system x
 is_plain_insn other = true
 
-abbrev pub is_jump_insn : Insn → Bool
-is_jump_insn (insn.Branch x) = true
-is_jump_insn (insn.BranchRegister x) = true
-is_jump_insn other = false
-
 -- ---- their operations
 
 abbrev is_quiet_op : SystemOp → Bool
@@ -68,11 +63,6 @@ is_plain_op (operation.G10 op) = false
 is_plain_op (operation.G11 op) = false
 is_plain_op (operation.G22 op) = is_quiet_op op
 is_plain_op other = true
-
-abbrev is_jump_op : Operation → Bool
-is_jump_op (operation.G10 op) = true
-is_jump_op (operation.G11 op) = true
-is_jump_op other = false
 
 system_named : (op : SystemOp) (n : Field → ℕ) → is_quiet_op op ≡ true → is_quiet_system (named_system op n) ≡ true
 unfolding named_system
@@ -109,32 +99,6 @@ plain_named (operation.G20 op wide index) n s e = refl
 plain_named (operation.G21 form) n s e = refl
 plain_named (operation.G22 op) n s e = system_named op n e
 plain_named (operation.G23 op register) n s e = refl
-
-jump_named : (op : Operation) (n : Field → ℕ) (s : Field → ℤ) → is_jump_op op ≡ true → is_jump_insn (named op n s) ≡ true
-unfolding named
-jump_named (operation.G10 op) n s e = refl
-jump_named (operation.G11 op) n s e = refl
-jump_named (operation.G1 op) n s e = cc
-jump_named (operation.G2 op) n s e = cc
-jump_named (operation.G3 op inverted) n s e = cc
-jump_named (operation.G4 op) n s e = cc
-jump_named (operation.G5 op) n s e = cc
-jump_named (operation.G6 op) n s e = cc
-jump_named (operation.G7 op wide) n s e = cc
-jump_named (operation.G8 wide) n s e = cc
-jump_named (operation.G9 op) n s e = cc
-jump_named (operation.G12 op) n s e = cc
-jump_named (operation.G13 op) n s e = cc
-jump_named (operation.G14 op immediate) n s e = cc
-jump_named (operation.G15 op) n s e = cc
-jump_named (operation.G16 op) n s e = cc
-jump_named (operation.G17 op) n s e = cc
-jump_named (operation.G18 form) n s e = cc
-jump_named (operation.G19 op) n s e = cc
-jump_named (operation.G20 op wide index) n s e = cc
-jump_named (operation.G21 form) n s e = cc
-jump_named (operation.G22 op) n s e = cc
-jump_named (operation.G23 op register) n s e = cc
 
 plain_vector_named : (op : VectorOperation) (n : Field → ℕ) (s : Field → ℤ) → is_plain_insn (vector_named op n s) ≡ true
 unfolding vector_named
@@ -225,32 +189,6 @@ not_plain word mask value plain is apart =
       ]
     ]
 
--- ---- the bits of a jump
-
--- the words of the line are of the system
-abbrev is_system : ℕ → ℕ → Bool
-is_system mask value = (bit_and mask 0xFE000000 == 0xFE000000) && (bit_and value 0xFE000000 == 0xD4000000)
-
-abbrev off_jump : ℕ → ℕ → Bool
-off_jump mask value = differ 0x1C000000 0x14000000 mask value || is_system mask value
-
-both_ways : (b : Bool) → b ≡ true → not b ≡ true → ⊥
-both_ways true e f = cc
-both_ways false e f = cc
-
-not_jump : (word mask value : ℕ) → is_jump_word word ≡ true → bit_and word mask ≡ value → off_jump mask value ≡ true → ⊥
-not_jump word mask value jump is apart =
-    let parts = and_parts (has_bits 0x1C000000 0x14000000 word) (not (has_bits 0xFE000000 0xD4000000 word)) jump in
-    elim (or_two (differ 0x1C000000 0x14000000 mask value) (is_system mask value) apart) [
-      | inl off ↦ off_bits word mask value 0x1C000000 0x14000000 parts.0 is off
-      | inr of_system ↦
-          let both = and_parts (bit_and mask 0xFE000000 == 0xFE000000) (bit_and value 0xFE000000 == 0xD4000000) of_system in
-          let same : bit_and word 0xFE000000 ≡ 0xD4000000 =
-          ap (bit_and word) (sym (eqb-true (bit_and mask 0xFE000000) 0xFE000000 both.0)) ∙ sym (and_assoc 0xFE000000 word mask)
-          ∙ ap (λ n. bit_and n 0xFE000000) is ∙ eqb-true (bit_and value 0xFE000000) 0xD4000000 both.1 in
-          both_ways (has_bits 0xFE000000 0xD4000000 word) (eq-eqb (bit_and word 0xFE000000) 0xD4000000 same) parts.1
-    ]
-
 -- ---- by both tables
 
 unfoldable safe_scalar : Line Operation → Bool
@@ -259,12 +197,6 @@ safe_scalar line = is_plain_op line.operation || off_plain line.mask line.value
 unfoldable safe_vector : Line VectorOperation → Bool
 safe_vector line = true
 
-unfoldable jump_scalar : Line Operation → Bool
-jump_scalar line = is_jump_op line.operation || off_jump line.mask line.value
-
-unfoldable jump_vector : Line VectorOperation → Bool
-jump_vector line = off_jump line.mask line.value
-
 all_scalar : list_all safe_scalar SCALAR_LINES ≡ true
 unfolding safe_scalar differ
 all_scalar = refl
@@ -272,14 +204,6 @@ all_scalar = refl
 all_vector : list_all safe_vector VECTOR_LINES ≡ true
 unfolding safe_vector
 all_vector = refl
-
-jumps_scalar : list_all jump_scalar SCALAR_LINES ≡ true
-unfolding jump_scalar differ
-jumps_scalar = refl
-
-jumps_vector : list_all jump_vector VECTOR_LINES ≡ true
-unfolding jump_vector differ
-jumps_vector = refl
 
 pub by_either : (first second : Option Insn) (it : Insn) → option_or first second ≡ Some it → (first ≡ Some it) ⊎ (second ≡ Some it)
 by_either None second it e = inr e
@@ -306,25 +230,4 @@ module _ (word : ℕ) (plain : is_plain_word word ≡ true) where
         all_mean scalar word (λ i. is_plain_insn i ≡ true) safe_scalar scalar_sound SCALAR_LINES all_scalar it h
     | inr h ↦
         all_mean vector word (λ i. is_plain_insn i ≡ true) safe_vector vector_sound VECTOR_LINES all_vector it h
-  ]
-
-module _ (word : ℕ) (jump : is_jump_word word ≡ true) where
-  jump_sound : (line : Line Operation) → jump_scalar line ≡ true → bit_and word line.mask ≡ line.value
-      → is_jump_insn (insn_in scalar line.operation word) ≡ true
-  unfolding scalar jump_scalar
-  jump_sound line safe is = elim (or_two (is_jump_op line.operation) (off_jump line.mask line.value) safe) [
-    | inl op ↦ jump_named line.operation _ _ op
-    | inr off ↦ absurd (not_jump word line.mask line.value jump is off)
-  ]
-
-  no_vector_jump : (line : Line VectorOperation) → jump_vector line ≡ true → bit_and word line.mask ≡ line.value
-      → is_jump_insn (insn_in vector line.operation word) ≡ true
-  unfolding jump_vector
-  no_vector_jump line safe is = absurd (not_jump word line.mask line.value jump is safe)
-
-  pub jump_is : (it : Insn) → instruction_of word ≡ Some it → is_jump_insn it ≡ true
-  unfolding instruction_of meaning_of vector_meaning_of meaning_by scalar vector
-  jump_is it e = elim (by_either (meaning_of word) (vector_meaning_of word) it e) [
-    | inl h ↦ all_mean scalar word (λ i. is_jump_insn i ≡ true) jump_scalar jump_sound SCALAR_LINES jumps_scalar it h
-    | inr h ↦ all_mean vector word (λ i. is_jump_insn i ≡ true) jump_vector no_vector_jump VECTOR_LINES jumps_vector it h
   ]

@@ -1,7 +1,7 @@
 -- A turn that counts an instruction, of which the word is known.
 use Rattle.std.proofs.Common.{◌≡◌, ℕ, suc, ◌==◌, Bool, true, false, cond, Option, Some, None}
 use Rattle.std.proofs.Common.{refl, ap, sym, ◌∙◌, subst, arith}
-use Rattle.std.specs.Prelude.{option_and_then, unwrap_or, nat_le, ◌||◌}
+use Rattle.std.specs.Prelude.{option_and_then, unwrap_or, nat_le}
 use Rattle.std.specs.Option.{option_or}
 use Rattle.std.specs.FinMap.{get}
 use Rattle.sm_types.specs.declared.config.Config.{Config}
@@ -13,17 +13,19 @@ use Rattle.a64_encode.specs.Either.{instruction_of}
 use Rattle.paged_memory.specs.Memory.{word_at}
 use Rattle.machine_step.specs.ProcessorState.{vector_bytes}
 use Rattle.machine_step.specs.Effect as instruction
-use Rattle.machine_step.specs.Effect.{Effect, Raises, Calls, Becomes, next_of, memory_fault, effect_of, fault_of, unless_fault, perform, insn_at, early_fault, data_fault}
+use Rattle.machine_step.specs.Effect.{Effect, Raises, Calls, Becomes, next_of, memory_fault, effect_of, fault_of, unless_fault, perform}
+use Rattle.machine_step.specs.Effect.{insn_at, early_fault, data_fault}
 use Rattle.machine_step.specs.Effect.{word_of, alignment_fault, fetch_fault, undefined_fault, illegal_fault}
 use Rattle.kernel_contexts.specs.State.{State}
 use Rattle.kernel_contexts.specs.Call.{TurnEnd, Goes, Asks, Ends, journal_limit}
-use Rattle.kernel_contexts.specs.Turn.{turn_of, after_effect, is_poll_due, poll_of, poll_op, polled_with, is_delivery_due, delivery_of, delivered_to, handled, released, lowest_signal}
+use Rattle.kernel_contexts.specs.Turn.{turn_of, after_effect, is_poll_due, poll_of, poll_op, polled_with, is_delivery_due, delivery_of}
+use Rattle.kernel_contexts.specs.Turn.{delivered_to, handled, released, lowest_signal}
 use Rattle.kernel_contexts.specs.Turn as turn
 use Rattle.abi_checker.specs.Marks.{word_in}
-use Rattle.abi_checker.specs.Straight.{KeepsCode, is_plain_word, is_jump_word}
+use Rattle.abi_checker.specs.Straight.{is_plain_word}
 use Rattle.abi_checker.proofs.Words.{word_any}
-use Rattle.abi_checker.proofs.Classes.{plain_is, jump_is}
-use Rattle.abi_checker.proofs.Plain.{GoesOn, OnPlain, OnJump, plain_on, jump_on}
+use Rattle.abi_checker.proofs.Classes.{plain_is}
+use Rattle.abi_checker.proofs.Plain.{GoesOn, OnPlain, plain_on}
 
 -- the state after a turn that goes on
 abbrev state_of_end : State → TurnEnd → State
@@ -77,13 +79,6 @@ module _ (config : Config) (thread events : ℕ) (s t : State) where
   plain_effect (Raises exception) h e = cc
   plain_effect (Calls number) h e = absurd h
   plain_effect (instruction.Asks op next) h e = absurd (asks_no_more _ s t op _ e)
-
-  jump_effect : (f : Effect) → OnJump s.core f → after_effect config thread events s f ≡ Goes t
-      → KeepsCode s.core.memory t.core.memory
-  jump_effect (Becomes u) h e = subst (λ (x : State). KeepsCode s.core.memory x.core.memory) (ap (state_of_end s) e) h
-  jump_effect (Raises exception) h e = cc
-  jump_effect (Calls number) h e = absurd h
-  jump_effect (instruction.Asks op next) h e = absurd (asks_no_more _ s t op _ e)
 
   -- an instruction that goes on has a word and a meaning, and no check failed
   pub record HasInsn : Type 0 where
@@ -142,15 +137,3 @@ module _ (config : Config) (thread events : ℕ) (s t : State) where
     plain_turn plain =
         let kind = plain_is h.word (subst (λ w. is_plain_word w ≡ true) (sym same) plain) h.it h.means in
         plain_effect (next_of vl h.it s.core) (plain_on vl s.core h.it kind h.check) h.goes
-
-    pub jump_turn : is_jump_word word ≡ true → KeepsCode s.core.memory t.core.memory
-    jump_turn jump =
-        let kind = jump_is h.word (subst (λ w. is_jump_word w ≡ true) (sym same) jump) h.it h.means in
-        jump_effect (next_of vl h.it s.core) (jump_on vl s.core h.it kind) h.goes
-
-    pub either_turn : (is_plain_word word || is_jump_word word) ≡ true → KeepsCode s.core.memory t.core.memory
-    either_turn e = choose (is_plain_word word) refl e
-      where
-        choose : (b : Bool) → is_plain_word word ≡ b → (b || is_jump_word word) ≡ true → KeepsCode s.core.memory t.core.memory
-        choose true is e = (plain_turn is).code
-        choose false is e = jump_turn e

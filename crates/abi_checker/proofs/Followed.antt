@@ -12,6 +12,7 @@ use Rattle.paged_memory.specs.Image.{Program}
 use Rattle.paged_memory.specs.Memory.{AddressSpace}
 use Rattle.sve_vectors.specs.Lengths.{vector_bytes}
 use Rattle.kernel_contexts.specs.State.{State, start_state}
+use Rattle.kernel_contexts.specs.HandlerRun.{IsPlain}
 use Rattle.kernel_contexts.specs.Run.{At, Ended, reach}
 use Rattle.kernel_contexts.specs.Context.{state_of, config_of, image_of, thread_of, journal_of}
 use Rattle.kernel_contexts.specs.declared.context.Context.{Context}
@@ -32,6 +33,7 @@ use Rattle.abi_checker.specs.declared.abi.Abi.{Abi}
 use Rattle.abi_checker.specs.declared.abi.AbiKind.{AbiKind}
 use Rattle.abi_checker.specs.declared.abi.AbiKind.TheVariants.{NotDormant, NotLawful, TooDeep}
 use Rattle.abi_checker.specs.declared.watch.Watch.{Watch}
+use Rattle.abi_checker.proofs.Keeps.{run_keeps}
 use Rattle.abi_checker.proofs.WholeStates.{whole_first, whole_at}
 
 -- ---- the start
@@ -66,7 +68,8 @@ pub past_counted : (s t : State) (call : Option ℕ) → IfSome call (λ past. I
     → t.count ≡ suc s.count → IsPast s t call
 past_counted s t (Some past) some none counted =
     (record { word = some.word; there = some.there; calls = some.calls; counted = counted }, some.place)
-past_counted s t None some none counted = λ h. differ (is_call_word h.word) h.calls (none h.word h.there)
+past_counted s t None some none counted = λ p h.
+    let call = h.call in differ (is_call_word call.word) call.calls (none call.word call.there)
 
 pub past_means : (s t : State) (call past : Option ℕ) → IfSome call (λ past. IsNextCall s past) → IfNone call (IsNoCall s)
     → IsCounted s t → past ≡ cond (nat_lt s.count t.count) call None → IsPast s t past
@@ -78,7 +81,7 @@ past_means s t call past some none counts e = elim (cases_Bool (nat_lt s.count t
       subst (IsPast s t) (sym (e ∙ ap (λ b. cond b call None) less)) (past_counted s t call some none one)
   | inr same ↦
       let under : t.count ≤ s.count = grind (arith, nat_tests) in
-      let apart : IsPast s t None = λ h. let one = h.counted in omega (arith, under, one) in
+      let apart : IsPast s t None = λ p h. let one = h.call.counted in omega (arith, under, one) in
       subst (IsPast s t) (sym (e ∙ ap (λ b. cond b call None) same)) apart
 ]
 
@@ -151,17 +154,18 @@ module _ (program : Program) (config : Config) (thread : ℕ) (journal : List Ev
       (told : Option Abi) → next_place old before ≡ place_of new after stop
       → IfSome call (λ past. IsNextCall (state_of old) past) → IfNone call (IsNoCall (state_of old))
       → first ≡ (state_of old).count → now ≡ (state_of new).count → past ≡ cond (nat_lt first now) call None
-      → config_of new ≡ config_of old → IsWholeWith (vector_bytes (config_of new).svl) (state_of new).core
+      → config_of new ≡ config_of old → IsPlain (config_of old) (state_of old) → IsWholeWith (vector_bytes (config_of new).svl) (state_of new).core
       → ((run : ℕ → State) (n : ℕ) → IsUnderWay run n watch found → run (suc n) ≡ state_of new
       → IsPast (run n) (run (suc n)) past → (run n).count ≤ (run (suc n)).count → IsWholeAt run (suc n)
-      → (false ≡ true → KeepsCode (run n).core.memory (run (suc n)).core.memory) → IsUnderWay run (suc n) later told)
+      → KeepsCode (run n).core.memory (run (suc n)).core.memory → IsUnderWay run (suc n) later told)
       → IsUnderWay run (suc here) later told
-  told_on new after stop call past first now later told e some none f g p config_is whole tells =
+  told_on new after stop call past first now later told e some none f g p config_is plain whole tells =
       tells run here h.told (next_state new after stop e) (past_here new after stop call past first now e some none f g p)
       next_counts.least
       (whole_at program config thread journal (suc here) (state_of new) (config_of new) (next_state new after stop e)
       (config_is ∙ same) whole)
-      (λ no. cc)
+      (run_keeps program config thread journal here (state_of old) (length (journal_of old)) before.ahead h.way.at
+      (subst (λ (k : Config). IsPlain k (state_of old)) same plain))
 
   pub checked : (new : Context) (after : ReplayEvents) (stop : Stop) (abi : Abi)
       → next_place old before ≡ place_of new after (Some stop)

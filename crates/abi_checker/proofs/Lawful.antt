@@ -1,5 +1,6 @@
 -- What is compared at a return is what a lawful callee leaves.
-use Rattle.std.proofs.Common.{◌⊎◌, inl, inr, ◌≡◌, ℕ, zero, suc, ◌+◌, ◌*◌, ◌/◌, ◌%◌, ◌^◌, ◌<◌, ◌≤◌, ◌==◌, Bool, true, false, cond, List, [], ◌∷◌, ◌++◌}
+use Rattle.std.proofs.Common.{◌⊎◌, inl, inr, ◌≡◌, ℕ, zero, suc, ◌+◌, ◌*◌, ◌/◌, ◌%◌, ◌^◌, ◌<◌, ◌≤◌, ◌==◌, Bool, true, false, cond, List}
+use Rattle.std.proofs.Common.{[], ◌∷◌, ◌++◌}
 use Rattle.std.proofs.Common.{length, Option, Some, None, refl, ap, sym, ◌∙◌, arith, subst}
 use Rattle.std.specs.Prelude.{is_some, IsSome, slice_index_or, unwrap_or}
 use Rattle.std.specs.FinMap.{get}
@@ -79,7 +80,8 @@ pub same_read : (m k : AddressSpace) (a n : ℕ) (bs : List ℕ) → bytes_with 
 unfolding bytes_with
 same_read m k a zero bs h g i l = absurd (omega (arith, l))
 same_read m k a (suc n) bs h g i l =
-    let parts = split bs (bytes_with 4 m a n) (bytes_with 4 k a n) (byte_with 4 m ((a + n) % 2 ^ 64)) (byte_with 4 k ((a + n) % 2 ^ 64)) h g in
+    let parts = split bs (bytes_with 4 m a n) (bytes_with 4 k a n) (byte_with 4 m ((a + n) % 2 ^ 64)) (byte_with 4 k ((a + n) % 2 ^ 64)) h g
+    in
     elim (last_or_less i n l) [
       | inl e ↦
           let at = ap (λ j. (a + j) % 2 ^ 64) e in

@@ -16,8 +16,10 @@ pub mod Classes
 pub mod Plain
 pub mod Planned
 pub mod Executed
+pub mod Keeps
 pub mod Staying
 pub mod Quiet
+pub mod Passed
 pub mod AtOnce
 pub mod Brought
 pub mod CallWords

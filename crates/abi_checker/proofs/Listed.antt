@@ -1,5 +1,6 @@
 -- A map as the list of its entries, and the byte of a page.
-use Rattle.std.proofs.Common.{◌≡◌, ◌≢◌, ℕ, zero, suc, ◌+◌, ◌/◌, ◌%◌, ◌<◌, ◌≤◌, List, [], ◌∷◌, ◌++◌, length, get_or, take, drop, refl, ap, sym}
+use Rattle.std.proofs.Common.{◌≡◌, ◌≢◌, ℕ, zero, suc, ◌+◌, ◌/◌, ◌%◌, ◌<◌, ◌≤◌, List, [], ◌∷◌, ◌++◌, length, get_or, take, drop, refl}
+use Rattle.std.proofs.Common.{ap, sym}
 use Rattle.std.proofs.Common.{◌∙◌, arith, add-one, true, false, Option, Some, None, slice_get}
 use Rattle.std.specs.Prelude.{cond, ◌==◌, is_some, unwrap_or}
 use Rattle.std.specs.FinMap.{FinMap, get, find}

@@ -1,4 +1,4 @@
--- What plain instructions and jumps leave: PC goes on by 4 after the first, and code that may not be written is as it was.
+-- What instructions leave: PC goes on by 4 after a plain one, and code that may not be written is as it was after each.
 use Rattle.std.proofs.Common.{◌≡◌, ℕ, ◌==◌, Bool, true, false, cond, List, [], ◌∷◌, Option, Some, None}
 use Rattle.std.proofs.Common.{length, refl, ap, sym, ◌∙◌, subst, arith}
 use Rattle.std.specs.Option.{option_or}
@@ -35,7 +35,8 @@ use Rattle.sm_types.specs.declared.stop.Exception.{Exception}
 use Rattle.sm_types.specs.declared.stop.Exception.TheVariants.{Data}
 use Rattle.sm_types.specs.declared.shared_op.SharedOp.{SharedOp}
 use Rattle.sm_types.specs.declared.vector as types
-use types.{VectorReduction.VectorReduction, VectorCompare.VectorCompare, Predicate.Predicate, PredicateCount.PredicateCount, ElementCount.ElementCount}
+use types.{VectorReduction.VectorReduction, VectorCompare.VectorCompare, Predicate.Predicate, PredicateCount.PredicateCount}
+use types.{ElementCount.ElementCount}
 use types.VectorReduction.TheVariants as reduction
 use types.VectorCompare.TheVariants as compare
 use types.Predicate.TheVariants as predicate
@@ -53,12 +54,14 @@ use Rattle.scalar_exec.specs.Conditional.{conditional_select, conditional_compar
 use Rattle.scalar_exec.specs.Branches.{pc_relative}
 use Rattle.scalar_exec.specs.Sources.{one_source, two_source, multiply}
 use Rattle.paged_memory.specs.Memory.{AddressSpace, byte_with}
-use Rattle.mem_access.specs.Access.{with_base, with_pair_base, load_store_access, load_literal_access, pair_access, atomic_access, is_store, is_stp}
+use Rattle.mem_access.specs.Access.{with_base, with_pair_base, load_store_access, load_literal_access, pair_access, atomic_access}
+use Rattle.mem_access.specs.Access.{is_store, is_stp}
 use Rattle.mem_access.specs.DataAccess.{DataAccess, of_run}
 use Rattle.mem_access.specs.Checks.{lacks, write_fault, access_fault, sp_fault, align_fault, shared_fault, read_fault}
 use Rattle.mem_access.specs.Values.{set_each, number_at}
 use Rattle.mem_access.specs.SharedAccess.{touched, checked_fault}
-use Rattle.mem_access.specs.Transfer.{access_of, written, stored, registers_after, after_access, after_data, after_bytes, load_store_after, load_store_stored}
+use Rattle.mem_access.specs.Transfer.{access_of, written, stored, registers_after, after_access, after_data, after_bytes}
+use Rattle.mem_access.specs.Transfer.{load_store_after, load_store_stored}
 use Rattle.mem_access.specs.Transfer.{pair_after, pair_stored, atomic_after, atomic_stored}
 use Rattle.sm_types.specs.declared.insn.System.{System}
 use Rattle.sm_types.specs.declared.insn.System.TheVariants as system
@@ -93,10 +96,11 @@ use Rattle.matrix_step.specs.Lengths.{after_streaming_length}
 use Rattle.machine_step.specs.ProcessorState.{ProcessorState}
 use Rattle.machine_step.specs.Mode.{length_at, with_part}
 use Rattle.machine_step.specs.System.{with_nzcv, with_system_register, moved, system_move, core_past}
-use Rattle.machine_step.specs.Effect.{Effect, Raises, Calls, Becomes, Asks, next_of, memory_fault, computed, accesses, accessed, vector_computed, matrix_computed}
+use Rattle.machine_step.specs.Effect.{Effect, Raises, Calls, Becomes, Asks, next_of, memory_fault, computed, accesses, accessed}
+use Rattle.machine_step.specs.Effect.{vector_computed, matrix_computed}
 use Rattle.machine_step.specs.Effect.{registers_of, matrix_of, system_effect, array_fault, array_accessed}
 use Rattle.abi_checker.specs.Straight.{KeepsCode}
-use Rattle.abi_checker.proofs.Classes.{is_plain_insn, is_jump_insn, is_quiet_system}
+use Rattle.abi_checker.proofs.Classes.{is_plain_insn, is_quiet_system}
 
 -- ---- PC beside the registers
 
@@ -235,7 +239,8 @@ set_apart m q h mem (a ∷ addresses) (b ∷ bytes) none =
     set_apart m q h (insert mem a b) addresses bytes parts.1
     ∙ insert_apart mem a b q (λ e. has_both (byte_with 2 m a) (ap (byte_with 2 m) (sym e) ∙ h) parts.0)
 
-written_code : (m : AddressSpace) (addresses : List ℕ) (o : Option (List ℕ)) → ((bytes : List ℕ) → o ≡ Some bytes → find (lacks 2 m) addresses ≡ None)
+pub written_code : (m : AddressSpace) (addresses : List ℕ) (o : Option (List ℕ))
+    → ((bytes : List ℕ) → o ≡ Some bytes → find (lacks 2 m) addresses ≡ None)
     → KeepsCode m (written m addresses o)
 written_code m addresses None f = same_code m
 written_code m addresses (Some bytes) f = record {
@@ -267,18 +272,12 @@ may_write access s m h e =
     let f = none_or (write_fault access m) _ d.1 in
     only_none (λ a. Data a Write) access.writes (find (lacks 2 m) access.bytes) e f.0
 
--- what is so after a plain instruction, and after a jump, neither of which calls the kernel
+-- what is so after a plain instruction, which does not call the kernel
 abbrev pub OnPlain : ProcessorState → Effect → Type 0
 OnPlain s (Becomes t) = GoesOn s t
 OnPlain s (Raises exception) = Unit {0}
 OnPlain s (Calls number) = ⊥
 OnPlain s (Asks op next) = Unit {0}
-
-abbrev pub OnJump : ProcessorState → Effect → Type 0
-OnJump s (Becomes t) = KeepsCode s.memory t.memory
-OnJump s (Raises exception) = Unit {0}
-OnJump s (Calls number) = ⊥
-OnJump s (Asks op next) = Unit {0}
 
 module _ (it : Insn) (s : ProcessorState) (access : DataAccess) (is : access_of it s.scalars ≡ Some access)
     (writes : (n : ℕ) (bytes : List ℕ) → stored it n s.scalars ≡ Some bytes → access.writes ≡ true)
@@ -314,7 +313,8 @@ stored_code : (access : DataAccess) (s : Scalars) (m : AddressSpace) (o : Option
 stored_code access s m o allowed writes = written_code m access.bytes o (λ bytes e. may_write access s m allowed (writes bytes e))
 
 -- which of them write
-store_writes : (op : LoadStoreOp) (x : LoadStore) (s : Scalars) (bytes : List ℕ) → load_store_stored op x s ≡ Some bytes → is_store op ≡ true
+store_writes : (op : LoadStoreOp) (x : LoadStore) (s : Scalars) (bytes : List ℕ) → load_store_stored op x s ≡ Some bytes
+    → is_store op ≡ true
 unfolding load_store_stored
 store_writes Store x s bytes e = refl
 store_writes Load x s bytes e = cc
@@ -326,7 +326,8 @@ unfolding pair_stored
 pair_writes Stp x s bytes e = refl
 pair_writes Ldp x s bytes e = cc
 
-atomic_writes : (x : Atomic) (n : ℕ) (s : Scalars) (bytes : List ℕ) → atomic_stored x n s ≡ Some bytes → (of_run (atomic_access x s)).writes ≡ true
+atomic_writes : (x : Atomic) (n : ℕ) (s : Scalars) (bytes : List ℕ) → atomic_stored x n s ≡ Some bytes
+    → (of_run (atomic_access x s)).writes ≡ true
 unfolding atomic_stored atomic_access
 atomic_writes (atomic.Ldar size rn rt) n s bytes e = cc
 atomic_writes (atomic.Stlr size rn rt) n s bytes e = refl
@@ -385,7 +386,8 @@ vector_writes (access.Vector false count rn zt) s l r bytes e = cc
 vector_writes (access.Predicate true count rn pt) s l r bytes e = refl
 vector_writes (access.Predicate false count rn pt) s l r bytes e = cc
 
-array_writes : (store : Bool) (offset rn n size : ℕ) (s : Scalars) (za : List (List ℕ)) (bytes : List ℕ) → array.stored store n za ≡ Some bytes
+array_writes : (store : Bool) (offset rn n size : ℕ) (s : Scalars) (za : List (List ℕ)) (bytes : List ℕ)
+    → array.stored store n za ≡ Some bytes
     → (array.vector_access store offset rn s size).writes ≡ true
 unfolding array.stored array.vector_access
 array_writes true offset rn n size s za bytes e = refl
@@ -411,8 +413,14 @@ unfolding after_move
 move_scalars x s = choose x.to_tile
   where
     choose : (b : Bool)
-        → (cond b (record s { za = moved_to_tile (slice_of x.slice s.scalars (length s.za)) (predicate_at s.registers x.pg) (vector_at s.registers x.z) s.za })
-        (record s { registers = vector_written s.registers x.z (moved_to_vector (slice_of x.slice s.scalars (length s.za)) (predicate_at s.registers x.pg) s.za (vector_at s.registers x.z)) })).scalars
+        → (cond b (record s {
+          za = moved_to_tile (slice_of x.slice s.scalars (length s.za)) (predicate_at s.registers x.pg)
+              (vector_at s.registers x.z) s.za;
+        })
+        (record s {
+          registers = vector_written s.registers x.z
+              (moved_to_vector (slice_of x.slice s.scalars (length s.za)) (predicate_at s.registers x.pg) s.za (vector_at s.registers x.z));
+        })).scalars
         ≡ s.scalars
     choose true = refl
     choose false = refl
@@ -491,30 +499,50 @@ array_on (Transfer store rv offset rn) s check = record {
 
 module _ (vl : ℕ) (s : ProcessorState) where
   pub plain_on : (it : Insn) → is_plain_insn it ≡ true → memory_fault vl it s ≡ None → OnPlain s (next_of vl it s)
-  unfolding scalar_step add_sub_immediate add_sub_register logical_register add_sub_extended logical_immediate move_wide bitfield_move extract pc_relative add_sub_carry conditional_select conditional_compare one_source two_source vector_step matrix_step after_outer_product load_store_access pair_access
-  plain_on (insn.AddSubImmediate x) plain check = computed_on s (insn.AddSubImmediate x) (past_pc s.scalars (add_sub_immediate x s.scalars) (sum_sp_pc x.op x.wide x.rd _ _ s.scalars))
-  plain_on (insn.AddSubRegister x) plain check = computed_on s (insn.AddSubRegister x) (past_pc s.scalars (add_sub_register x s.scalars) (sum_x_pc x.op x.wide x.rd _ _ _ s.scalars))
-  plain_on (insn.LogicalRegister x) plain check = computed_on s (insn.LogicalRegister x) (past_pc s.scalars (logical_register x s.scalars) (logical_x_pc x.op x.wide x.rd _ s.scalars))
-  plain_on (insn.AddSubExtended x) plain check = computed_on s (insn.AddSubExtended x) (past_pc s.scalars (add_sub_extended x s.scalars) (sum_sp_pc x.op x.wide x.rd _ _ s.scalars))
-  plain_on (insn.LogicalImmediate x) plain check = computed_on s (insn.LogicalImmediate x) (past_pc s.scalars (logical_immediate x s.scalars) (logical_sp_pc x.op x.wide x.rd _ s.scalars))
-  plain_on (insn.MoveWide x) plain check = computed_on s (insn.MoveWide x) (past_pc s.scalars (move_wide x s.scalars) (x_pc s.scalars x.rd _))
-  plain_on (insn.BitfieldMove x) plain check = computed_on s (insn.BitfieldMove x) (past_pc s.scalars (bitfield_move x s.scalars) (x_pc s.scalars x.rd _))
+  unfolding scalar_step add_sub_immediate add_sub_register logical_register add_sub_extended logical_immediate move_wide bitfield_move
+      extract pc_relative add_sub_carry conditional_select conditional_compare one_source two_source vector_step matrix_step
+      after_outer_product load_store_access pair_access
+  plain_on (insn.AddSubImmediate x) plain check =
+      computed_on s (insn.AddSubImmediate x) (past_pc s.scalars (add_sub_immediate x s.scalars) (sum_sp_pc x.op x.wide x.rd _ _ s.scalars))
+  plain_on (insn.AddSubRegister x) plain check =
+      computed_on s (insn.AddSubRegister x) (past_pc s.scalars (add_sub_register x s.scalars) (sum_x_pc x.op x.wide x.rd _ _ _ s.scalars))
+  plain_on (insn.LogicalRegister x) plain check =
+      computed_on s (insn.LogicalRegister x) (past_pc s.scalars (logical_register x s.scalars) (logical_x_pc x.op x.wide x.rd _ s.scalars))
+  plain_on (insn.AddSubExtended x) plain check =
+      computed_on s (insn.AddSubExtended x) (past_pc s.scalars (add_sub_extended x s.scalars) (sum_sp_pc x.op x.wide x.rd _ _ s.scalars))
+  plain_on (insn.LogicalImmediate x) plain check =
+      computed_on s (insn.LogicalImmediate x)
+      (past_pc s.scalars (logical_immediate x s.scalars) (logical_sp_pc x.op x.wide x.rd _ s.scalars))
+  plain_on (insn.MoveWide x) plain check =
+      computed_on s (insn.MoveWide x) (past_pc s.scalars (move_wide x s.scalars) (x_pc s.scalars x.rd _))
+  plain_on (insn.BitfieldMove x) plain check =
+      computed_on s (insn.BitfieldMove x) (past_pc s.scalars (bitfield_move x s.scalars) (x_pc s.scalars x.rd _))
   plain_on (insn.Extract x) plain check = computed_on s (insn.Extract x) (past_pc s.scalars (extract x s.scalars) (x_pc s.scalars x.rd _))
-  plain_on (insn.PcRelative x) plain check = computed_on s (insn.PcRelative x) (past_pc s.scalars (pc_relative x s.scalars) (x_pc s.scalars x.rd _))
-  plain_on (insn.AddSubCarry x) plain check = computed_on s (insn.AddSubCarry x) (past_pc s.scalars (add_sub_carry x s.scalars) (sum_x_pc x.op x.wide x.rd _ _ _ s.scalars))
-  plain_on (insn.ConditionalSelect x) plain check = computed_on s (insn.ConditionalSelect x) (past_pc s.scalars (conditional_select x s.scalars) (x_pc s.scalars x.rd _))
-  plain_on (insn.ConditionalCompare x) plain check = computed_on s (insn.ConditionalCompare x) (past_pc s.scalars (conditional_compare x s.scalars) (flags_pc s.scalars _))
-  plain_on (insn.OneSource x) plain check = computed_on s (insn.OneSource x) (past_pc s.scalars (one_source x s.scalars) (x_pc s.scalars x.rd _))
-  plain_on (insn.TwoSource x) plain check = computed_on s (insn.TwoSource x) (past_pc s.scalars (two_source x s.scalars) (x_pc s.scalars x.rd _))
-  plain_on (insn.Multiply x) plain check = computed_on s (insn.Multiply x) (past_pc s.scalars (multiply x s.scalars) (multiply_pc x s.scalars))
+  plain_on (insn.PcRelative x) plain check =
+      computed_on s (insn.PcRelative x) (past_pc s.scalars (pc_relative x s.scalars) (x_pc s.scalars x.rd _))
+  plain_on (insn.AddSubCarry x) plain check =
+      computed_on s (insn.AddSubCarry x) (past_pc s.scalars (add_sub_carry x s.scalars) (sum_x_pc x.op x.wide x.rd _ _ _ s.scalars))
+  plain_on (insn.ConditionalSelect x) plain check =
+      computed_on s (insn.ConditionalSelect x) (past_pc s.scalars (conditional_select x s.scalars) (x_pc s.scalars x.rd _))
+  plain_on (insn.ConditionalCompare x) plain check =
+      computed_on s (insn.ConditionalCompare x) (past_pc s.scalars (conditional_compare x s.scalars) (flags_pc s.scalars _))
+  plain_on (insn.OneSource x) plain check =
+      computed_on s (insn.OneSource x) (past_pc s.scalars (one_source x s.scalars) (x_pc s.scalars x.rd _))
+  plain_on (insn.TwoSource x) plain check =
+      computed_on s (insn.TwoSource x) (past_pc s.scalars (two_source x s.scalars) (x_pc s.scalars x.rd _))
+  plain_on (insn.Multiply x) plain check =
+      computed_on s (insn.Multiply x) (past_pc s.scalars (multiply x s.scalars) (multiply_pc x s.scalars))
   plain_on (insn.LoadStore x) plain check =
-      access_on (insn.LoadStore x) s (of_run (load_store_access x s.scalars)) refl (λ n bytes e. store_writes x.op x s.scalars bytes e) (λ n. load_store_pc x.op x n s.scalars) check
+      access_on (insn.LoadStore x) s (of_run (load_store_access x s.scalars)) refl (λ n bytes e. store_writes x.op x s.scalars bytes e)
+      (λ n. load_store_pc x.op x n s.scalars) check
   plain_on (insn.LoadLiteral x) plain check =
       access_on (insn.LoadLiteral x) s (of_run (load_literal_access x s.scalars)) refl (λ n bytes e. cc) (λ n. x_pc s.scalars x.rt _) check
   plain_on (insn.LoadStorePair x) plain check =
-      access_on (insn.LoadStorePair x) s (of_run (pair_access x s.scalars)) refl (λ n bytes e. pair_writes x.op x s.scalars bytes e) (λ n. pair_pc x.op x n s.scalars) check
+      access_on (insn.LoadStorePair x) s (of_run (pair_access x s.scalars)) refl (λ n bytes e. pair_writes x.op x s.scalars bytes e)
+      (λ n. pair_pc x.op x n s.scalars) check
   plain_on (insn.Atomic x) plain check =
-      access_on (insn.Atomic x) s (of_run (atomic_access x s.scalars)) refl (λ n bytes e. atomic_writes x n s.scalars bytes e) (λ n. atomic_pc x n s.scalars) check
+      access_on (insn.Atomic x) s (of_run (atomic_access x s.scalars)) refl (λ n bytes e. atomic_writes x n s.scalars bytes e)
+      (λ n. atomic_pc x n s.scalars) check
   plain_on (insn.VectorArithmetic x) plain check = vectors_on vl (insn.VectorArithmetic x) s (refl)
   plain_on (insn.VectorLogical x) plain check = vectors_on vl (insn.VectorLogical x) s (refl)
   plain_on (insn.PredicatedBinary x) plain check = vectors_on vl (insn.PredicatedBinary x) s (refl)
@@ -524,7 +552,8 @@ module _ (vl : ℕ) (s : ProcessorState) where
   plain_on (insn.VectorCopy x) plain check = vectors_on vl (insn.VectorCopy x) s (refl)
   plain_on (insn.VectorPermute x) plain check = vectors_on vl (insn.VectorPermute x) s (refl)
   plain_on (insn.Sve2 x) plain check = vectors_on vl (insn.Sve2 x) s (refl)
-  plain_on (insn.VectorReduction x) plain check = vectors_on vl (insn.VectorReduction x) s (reduction_pc (length_at vl s) x (registers_of s))
+  plain_on (insn.VectorReduction x) plain check =
+      vectors_on vl (insn.VectorReduction x) s (reduction_pc (length_at vl s) x (registers_of s))
   plain_on (insn.VectorCompare x) plain check = vectors_on vl (insn.VectorCompare x) s (compare_pc (length_at vl s) x (registers_of s))
   plain_on (insn.Predicate x) plain check = vectors_on vl (insn.Predicate x) s (predicate_pc (length_at vl s) x (registers_of s))
   plain_on (insn.PredicateCount x) plain check = vectors_on vl (insn.PredicateCount x) s (count_pc (length_at vl s) x (registers_of s))
@@ -552,50 +581,75 @@ module _ (vl : ℕ) (s : ProcessorState) where
       matrix_on (insn.TileMove x) s (ap (λ (k : Scalars). k.pc) (move_scalars x (matrix_of s)))
   plain_on (insn.TileAdd x) plain check = matrix_on (insn.TileAdd x) s (ap (λ (k : Scalars). k.pc) (add_scalars x (matrix_of s)))
 
--- a jump changes no memory
-pub jump_on : (vl : ℕ) (s : ProcessorState) (it : Insn) → is_jump_insn it ≡ true → OnJump s (next_of vl it s)
-jump_on vl s (insn.Branch x) jump = same_code s.memory
-jump_on vl s (insn.BranchRegister x) jump = same_code s.memory
-jump_on vl s (insn.AddSubImmediate x) jump = cc
-jump_on vl s (insn.AddSubRegister x) jump = cc
-jump_on vl s (insn.LogicalRegister x) jump = cc
-jump_on vl s (insn.AddSubExtended x) jump = cc
-jump_on vl s (insn.LogicalImmediate x) jump = cc
-jump_on vl s (insn.MoveWide x) jump = cc
-jump_on vl s (insn.BitfieldMove x) jump = cc
-jump_on vl s (insn.Extract x) jump = cc
-jump_on vl s (insn.PcRelative x) jump = cc
-jump_on vl s (insn.AddSubCarry x) jump = cc
-jump_on vl s (insn.ConditionalSelect x) jump = cc
-jump_on vl s (insn.ConditionalCompare x) jump = cc
-jump_on vl s (insn.OneSource x) jump = cc
-jump_on vl s (insn.TwoSource x) jump = cc
-jump_on vl s (insn.Multiply x) jump = cc
-jump_on vl s (insn.LoadStore x) jump = cc
-jump_on vl s (insn.LoadLiteral x) jump = cc
-jump_on vl s (insn.LoadStorePair x) jump = cc
-jump_on vl s (insn.Atomic x) jump = cc
-jump_on vl s (insn.VectorArithmetic x) jump = cc
-jump_on vl s (insn.VectorLogical x) jump = cc
-jump_on vl s (insn.PredicatedBinary x) jump = cc
-jump_on vl s (insn.MultiplyAdd x) jump = cc
-jump_on vl s (insn.PredicatedUnary x) jump = cc
-jump_on vl s (insn.VectorShift x) jump = cc
-jump_on vl s (insn.VectorCopy x) jump = cc
-jump_on vl s (insn.VectorPermute x) jump = cc
-jump_on vl s (insn.Sve2 x) jump = cc
-jump_on vl s (insn.VectorReduction x) jump = cc
-jump_on vl s (insn.VectorCompare x) jump = cc
-jump_on vl s (insn.Predicate x) jump = cc
-jump_on vl s (insn.PredicateCount x) jump = cc
-jump_on vl s (insn.ElementCount x) jump = cc
-jump_on vl s (insn.OuterProduct x) jump = cc
-jump_on vl s (insn.StreamingLength x) jump = cc
-jump_on vl s (insn.System x) jump = cc
-jump_on vl s (insn.SystemMove x) jump = cc
-jump_on vl s (insn.VectorAccess x) jump = cc
-jump_on vl s (insn.Mode x) jump = cc
-jump_on vl s (insn.ArrayAccess x) jump = cc
-jump_on vl s (insn.TileAccess x) jump = cc
-jump_on vl s (insn.TileMove x) jump = cc
-jump_on vl s (insn.TileAdd x) jump = cc
+-- ---- of code alone
+
+-- an instruction leaves code that may not be written as it was, whatever the answer is where it asks
+abbrev pub KeepsBy : ProcessorState → Effect → Type 0
+KeepsBy s (Raises exception) = Unit {0}
+KeepsBy s (Calls number) = Unit {0}
+KeepsBy s (Becomes t) = KeepsCode s.memory t.memory
+KeepsBy s (Asks op next) = (answer : ℕ) → KeepsCode s.memory (next answer).memory
+
+asked_keeps : (it : Insn) (s : ProcessorState) (o : Option SharedOp) → OnPlain s (accesses o it s) → KeepsBy s (accesses o it s)
+asked_keeps it s None h = h.code
+asked_keeps it s (Some op) h = λ answer. same_code s.memory
+
+system_keeps : (x : System) (s : ProcessorState) → KeepsBy s (system_effect x s)
+system_keeps (system.Svc imm) s = tt
+system_keeps (system.Brk imm) s = tt
+system_keeps (system.Udf imm) s = tt
+system_keeps (system.Hint imm) s = same_code s.memory
+system_keeps (system.Dmb imm) s = same_code s.memory
+system_keeps (system.Dsb imm) s = same_code s.memory
+system_keeps (system.Isb imm) s = same_code s.memory
+
+pub insn_keeps : (vl : ℕ) (s : ProcessorState) (it : Insn) → memory_fault vl it s ≡ None → KeepsBy s (next_of vl it s)
+insn_keeps vl s (insn.AddSubImmediate x) check = (plain_on vl s (insn.AddSubImmediate x) refl check).code
+insn_keeps vl s (insn.AddSubRegister x) check = (plain_on vl s (insn.AddSubRegister x) refl check).code
+insn_keeps vl s (insn.LogicalRegister x) check = (plain_on vl s (insn.LogicalRegister x) refl check).code
+insn_keeps vl s (insn.AddSubExtended x) check = (plain_on vl s (insn.AddSubExtended x) refl check).code
+insn_keeps vl s (insn.LogicalImmediate x) check = (plain_on vl s (insn.LogicalImmediate x) refl check).code
+insn_keeps vl s (insn.MoveWide x) check = (plain_on vl s (insn.MoveWide x) refl check).code
+insn_keeps vl s (insn.BitfieldMove x) check = (plain_on vl s (insn.BitfieldMove x) refl check).code
+insn_keeps vl s (insn.Extract x) check = (plain_on vl s (insn.Extract x) refl check).code
+insn_keeps vl s (insn.PcRelative x) check = (plain_on vl s (insn.PcRelative x) refl check).code
+insn_keeps vl s (insn.AddSubCarry x) check = (plain_on vl s (insn.AddSubCarry x) refl check).code
+insn_keeps vl s (insn.ConditionalSelect x) check = (plain_on vl s (insn.ConditionalSelect x) refl check).code
+insn_keeps vl s (insn.ConditionalCompare x) check = (plain_on vl s (insn.ConditionalCompare x) refl check).code
+insn_keeps vl s (insn.OneSource x) check = (plain_on vl s (insn.OneSource x) refl check).code
+insn_keeps vl s (insn.TwoSource x) check = (plain_on vl s (insn.TwoSource x) refl check).code
+insn_keeps vl s (insn.Multiply x) check = (plain_on vl s (insn.Multiply x) refl check).code
+insn_keeps vl s (insn.LoadStore x) check =
+    asked_keeps (insn.LoadStore x) s (touched (insn.LoadStore x) s.scalars) (plain_on vl s (insn.LoadStore x) refl check)
+insn_keeps vl s (insn.LoadLiteral x) check =
+    asked_keeps (insn.LoadLiteral x) s (touched (insn.LoadLiteral x) s.scalars) (plain_on vl s (insn.LoadLiteral x) refl check)
+insn_keeps vl s (insn.LoadStorePair x) check =
+    asked_keeps (insn.LoadStorePair x) s (touched (insn.LoadStorePair x) s.scalars) (plain_on vl s (insn.LoadStorePair x) refl check)
+insn_keeps vl s (insn.Atomic x) check =
+    asked_keeps (insn.Atomic x) s (touched (insn.Atomic x) s.scalars) (plain_on vl s (insn.Atomic x) refl check)
+insn_keeps vl s (insn.VectorArithmetic x) check = (plain_on vl s (insn.VectorArithmetic x) refl check).code
+insn_keeps vl s (insn.VectorLogical x) check = (plain_on vl s (insn.VectorLogical x) refl check).code
+insn_keeps vl s (insn.PredicatedBinary x) check = (plain_on vl s (insn.PredicatedBinary x) refl check).code
+insn_keeps vl s (insn.MultiplyAdd x) check = (plain_on vl s (insn.MultiplyAdd x) refl check).code
+insn_keeps vl s (insn.PredicatedUnary x) check = (plain_on vl s (insn.PredicatedUnary x) refl check).code
+insn_keeps vl s (insn.VectorShift x) check = (plain_on vl s (insn.VectorShift x) refl check).code
+insn_keeps vl s (insn.VectorCopy x) check = (plain_on vl s (insn.VectorCopy x) refl check).code
+insn_keeps vl s (insn.VectorPermute x) check = (plain_on vl s (insn.VectorPermute x) refl check).code
+insn_keeps vl s (insn.Sve2 x) check = (plain_on vl s (insn.Sve2 x) refl check).code
+insn_keeps vl s (insn.VectorReduction x) check = (plain_on vl s (insn.VectorReduction x) refl check).code
+insn_keeps vl s (insn.VectorCompare x) check = (plain_on vl s (insn.VectorCompare x) refl check).code
+insn_keeps vl s (insn.Predicate x) check = (plain_on vl s (insn.Predicate x) refl check).code
+insn_keeps vl s (insn.PredicateCount x) check = (plain_on vl s (insn.PredicateCount x) refl check).code
+insn_keeps vl s (insn.ElementCount x) check = (plain_on vl s (insn.ElementCount x) refl check).code
+insn_keeps vl s (insn.OuterProduct x) check = (plain_on vl s (insn.OuterProduct x) refl check).code
+insn_keeps vl s (insn.StreamingLength x) check = (plain_on vl s (insn.StreamingLength x) refl check).code
+insn_keeps vl s (insn.System x) check = system_keeps x s
+insn_keeps vl s (insn.SystemMove x) check = (plain_on vl s (insn.SystemMove x) refl check).code
+insn_keeps vl s (insn.Branch x) check = same_code s.memory
+insn_keeps vl s (insn.BranchRegister x) check = same_code s.memory
+insn_keeps vl s (insn.VectorAccess x) check = (plain_on vl s (insn.VectorAccess x) refl check).code
+insn_keeps vl s (insn.Mode x) check = (plain_on vl s (insn.Mode x) refl check).code
+insn_keeps vl s (insn.ArrayAccess x) check = (plain_on vl s (insn.ArrayAccess x) refl check).code
+insn_keeps vl s (insn.TileAccess x) check = (plain_on vl s (insn.TileAccess x) refl check).code
+insn_keeps vl s (insn.TileMove x) check = (plain_on vl s (insn.TileMove x) refl check).code
+insn_keeps vl s (insn.TileAdd x) check = (plain_on vl s (insn.TileAdd x) refl check).code

@@ -1,13 +1,12 @@
 -- The turns that are made next, and the calls before them.
-use Rattle.std.proofs.Common.{inl, inr, ◌≡◌, ℕ, ◌<◌, Bool, true, Option, Some, None, refl, ap, sym, ◌∙◌, subst}
-use Rattle.std.specs.Prelude.{IsTrue, IfSome, IfNone, ◌||◌}
+use Rattle.std.proofs.Common.{inl, inr, ◌≡◌, ℕ, ◌<◌, Option, None, refl, ap, sym, ◌∙◌, subst}
+use Rattle.std.specs.Prelude.{IfSome, IfNone}
 use Rattle.paged_memory.specs.Memory.{AddressSpace}
 use Rattle.machine_step.specs.declared.machine.Machine.{Machine}
 use Rattle.kernel_contexts.specs.State.{State}
 use Rattle.kernel_contexts.specs.Context.{state_of, machine_of}
 use Rattle.kernel_contexts.specs.declared.context.Context.{Context}
-use Rattle.abi_checker.specs.Marks.{word_in}
-use Rattle.abi_checker.specs.Straight.{AreBlocks, IsBlock, is_plain_word, is_jump_word}
+use Rattle.abi_checker.specs.Straight.{AreBlocks, IsBlock}
 use Rattle.abi_checker.specs.Watching.{IsWatched, IsNextCall, IsNoCall}
 use Rattle.abi_checker.specs.Planning.{IsPlanned}
 use Rattle.abi_checker.specs.declared.blocks.Blocks.{Blocks}
@@ -45,7 +44,7 @@ module _ (run : ℕ → State) (n : ℕ) (watch : Watch) (machine : Machine) (co
   pub block_planned : (block : ℕ) → 0 < block
       → (AreBlocks watch.near machine.pages.memory watch.blocks.known
       → IsBlock watch.near machine.pages.memory machine.scalars.pc block)
-      → IsPlanned watch.near (run n) (record { most = block; call = None; keeps = true })
+      → IsPlanned watch.near (run n) (record { most = block; call = None })
   block_planned block some is = inl (record {
     some = some;
     block = subst (λ (s : State). IsBlock watch.near s.core.memory s.core.scalars.pc block) (sym e)
@@ -53,17 +52,11 @@ module _ (run : ℕ → State) (n : ℕ) (watch : Watch) (machine : Machine) (co
     call = refl;
   })
 
-pub one_planned : (run : ℕ → State) (n : ℕ) (watch : Watch) (context : Context) → run n ≡ state_of context
-    → (call : Option ℕ) (keeps : Bool) → IfSome call (λ past. IsNextCall (state_of context) past)
-    → IfNone call (IsNoCall (state_of context))
-    → (IsTrue keeps → (word : ℕ) × (word_in (state_of context).core.memory (state_of context).core.scalars.pc ≡ Some word)
-    × ((is_plain_word word || is_jump_word word) ≡ true))
-    → IsPlanned watch.near (run n) (record { most = 1; call = call; keeps = keeps })
-one_planned run n watch context e call keeps some none code = inr (record {
+pub one_planned : (run : ℕ → State) (n : ℕ) (watch : Watch) (context : Context) → run n ≡ state_of context → (call : Option ℕ)
+    → IfSome call (λ past. IsNextCall (state_of context) past) → IfNone call (IsNoCall (state_of context))
+    → IsPlanned watch.near (run n) (record { most = 1; call = call })
+one_planned run n watch context e call some none = inr (record {
   one = refl;
   calls = subst (λ (s : State). IfSome call (λ past. IsNextCall s past)) (sym e) some;
   none = subst (λ (s : State). IfNone call (IsNoCall s)) (sym e) none;
-  keeps = λ told.
-      subst (λ (s : State). (word : ℕ) × (word_in s.core.memory s.core.scalars.pc ≡ Some word)
-      × ((is_plain_word word || is_jump_word word) ≡ true)) (sym e) (code told);
 })

@@ -1,7 +1,7 @@
 -- Turns of a block: at none of them is anything told, but in the state after the last.
 use Rattle.std.proofs.Common.{inl, inr, ◌≡◌, ℕ, zero, suc, ◌+◌, ◌-◌, ◌%◌, ◌^◌, ◌<◌, ◌≤◌, Bool, true, false, List, Some}
-use Rattle.std.proofs.Common.{ap, sym, ◌∙◌, subst, arith}
-use Rattle.std.specs.Prelude.{◌||◌, unwrap_or}
+use Rattle.std.proofs.Common.{◌==◌, eq-eqb, refl, ap, sym, ◌∙◌, subst, arith}
+use Rattle.std.specs.Prelude.{unwrap_or}
 use Rattle.sm_types.specs.declared.config.Config.{Config}
 use Rattle.sm_types.specs.declared.shared_op.Event.{Event}
 use Rattle.paged_memory.specs.Image.{Program}
@@ -11,18 +11,21 @@ use Rattle.kernel_contexts.specs.Turn.{turn_of}
 use Rattle.kernel_contexts.specs.Several.{GoesBy}
 use Rattle.kernel_contexts.specs.Run.{Reached, At, reach}
 use Rattle.lazy_saving.specs.Code.{place_of}
+use Rattle.lazy_saving.specs.Dormant.{Places}
 use Rattle.lone_runner.specs.Parting.{state_at}
 use Rattle.lone_runner.proofs.Partings.{compared, reach_counts}
 use Rattle.lone_runner.proofs.Several.{gone_at}
-use Rattle.abi_checker.specs.Marks.{IsCall, word_in, is_call_word}
+use Rattle.abi_checker.specs.Marks.{IsMarkedCall, word_in, is_call_word, tail_start}
 use Rattle.abi_checker.specs.Near.{is_near}
-use Rattle.abi_checker.specs.Straight.{KeepsCode, IsBlock, is_plain_word, is_jump_word}
+use Rattle.abi_checker.specs.Straight.{KeepsCode, IsBlock, IsUnmarkedWord}
 use Rattle.abi_checker.specs.Checked.{states_of}
 use Rattle.abi_checker.specs.Watching.{IsWatched}
 use Rattle.abi_checker.specs.declared.watch.Watch.{Watch}
 use Rattle.abi_checker.proofs.Words.{word_any}
-use Rattle.abi_checker.proofs.Executed.{plain_turn, either_turn}
-use Rattle.abi_checker.proofs.Staying.{code_stays, code_on, block_stays, blocks_stay}
+use Rattle.abi_checker.proofs.Executed.{plain_turn}
+use Rattle.abi_checker.proofs.Keeps.{counted_keeps}
+use Rattle.abi_checker.proofs.Marked.{first_there}
+use Rattle.abi_checker.proofs.Staying.{code_stays, code_on, no_tail_stays, block_stays, blocks_stay}
 use Rattle.abi_checker.proofs.Settled.{none_settles}
 use Rattle.abi_checker.proofs.Went.{went_uncalled, none_back}
 
@@ -108,32 +111,32 @@ module _ (config : Config) (thread events : ℕ) (run : ℕ → State) (here n :
     code : KeepsCode (run here).core.memory (run (here + j)).core.memory
 
   there : (j : ℕ) → j < n → IsAt j → (word : ℕ) × (word_in (run (here + j)).core.memory (run (here + j)).core.scalars.pc ≡ Some word)
-      × (is_call_word word ≡ false) × ((is_plain_word word || is_jump_word word) ≡ true)
+      × IsUnmarkedWord (run (here + j)).core.memory word (place_of from (suc j))
       × (word_in (run (here + j)).core.memory (place_of from j) ≡ Some word)
   there j l at =
-      let w = (block_stays watch.near (run here).core.memory (run (here + j)).core.memory from count at.code block).words j (omega (arith, l, few)) in
-      (w.0, ap (word_in (run (here + j)).core.memory) at.pc ∙ w.1, w.2, w.3, w.1)
+      let w = (block_stays watch.near (run here).core.memory (run (here + j)).core.memory from count at.code block).words j
+      (omega (arith, l, few)) in
+      (w.0, ap (word_in (run (here + j)).core.memory) at.pc ∙ w.1, w.2, w.1)
 
   next_place : (j : ℕ) → (place_of from j + 4) % 2 ^ 64 ≡ place_of from (suc j)
   next_place j = omega arith
 
-  -- each turn keeps code
-  code_next : (j : ℕ) → j < n → IsAt j → KeepsCode (run (here + j)).core.memory (run (here + suc j)).core.memory
-  code_next j l at =
-      let w = there j l at in
-      either_turn config thread events (run (here + j)) (run (here + suc j)) (c.goes j l) (c.counts j l) w.0 w.1 w.3
+  pub code_each : (j : ℕ) → j < n → KeepsCode (run (here + j)).core.memory (run (here + suc j)).core.memory
+  code_each j l = counted_keeps config thread events (run (here + j)) (run (here + suc j)) (c.goes j l) (c.counts j l)
 
-  -- and each but the last goes on to the next instruction
+  -- each turn but the last goes on to the next instruction
   at_next : (j : ℕ) → suc j < n → IsAt j → IsAt (suc j)
   at_next j l at =
       let here_less : j < n = omega (arith, l) in
       let w = there j here_less at in
       let kept = block_stays watch.near (run here).core.memory (run (here + j)).core.memory from count at.code block in
-      let plain = kept.plain j w.0 (omega (arith, l, few)) w.4 in
-      let turn = plain_turn config thread events (run (here + j)) (run (here + suc j)) (c.goes j here_less) (c.counts j here_less) w.0 w.1 plain in
+      let plain = kept.plain j w.0 (omega (arith, l, few)) w.3 in
+      let turn = plain_turn config thread events (run (here + j)) (run (here + suc j)) (c.goes j here_less) (c.counts j here_less) w.0 w.1
+      plain in
       record {
         pc = turn.pc ∙ ap (λ a. (a + 4) % 2 ^ 64) at.pc ∙ next_place j;
-        code = code_on (run here).core.memory (run (here + j)).core.memory (run (here + suc j)).core.memory at.code turn.code;
+        code = code_on (run here).core.memory (run (here + j)).core.memory (run (here + suc j)).core.memory at.code
+            (code_each j here_less);
       }
 
   at_first : IsAt 0
@@ -150,17 +153,28 @@ module _ (config : Config) (thread events : ℕ) (run : ℕ → State) (here n :
   at_each zero l = at_first
   at_each (suc j) l = at_next j l (at_each j (omega (arith, l)))
 
-  -- none of the turns is a call
-  pub no_call : (j : ℕ) → j < n → ¬ IsCall (run (here + j)) (run (here + suc j))
-  no_call j l call =
-      let w = there j l (at_each j l) in
-      let same : call.word ≡ w.0 =
-      one_word call.word w.0
-      (word_any (run (here + j)).core.memory (run (here + j)).core.scalars.pc call.word call.there ∙ w.1) in
-      both (is_call_word w.0) (subst (λ x. is_call_word x ≡ true) same call.calls) w.2
-
-  pub code_each : (j : ℕ) → j < n → KeepsCode (run (here + j)).core.memory (run (here + suc j)).core.memory
-  code_each j l = code_next j l (at_each j l)
+  -- none of the turns is a marked call
+  pub no_mark : (j : ℕ) → j < n → (p : Places) → ¬ IsMarkedCall p (run (here + j)) (run (here + suc j))
+  no_mark j l p marked =
+      let at = at_each j l in
+      let w = there j l at in
+      let call = marked.call in
+      elim w.2 as (λ _. ⊥) [
+        | inl none ↦
+            let same : call.word ≡ w.0 =
+            one_word call.word w.0
+            (word_any (run (here + j)).core.memory (run (here + j)).core.scalars.pc call.word call.there ∙ w.1) in
+            both (is_call_word w.0) (subst (λ x. is_call_word x ≡ true) same call.calls) none
+        | inr other ↦
+            let m = (run (here + suc j)).core.memory in
+            let past = place_of from (suc j) in
+            let tail : p.tail ≡ past = marked.place ∙ ap (λ a. (a + 4) % 2 ^ 64) at.pc ∙ next_place j in
+            let stays = no_tail_stays (run (here + j)).core.memory m past (code_each j l) other in
+            let first : word_in m past ≡ Some tail_start =
+            first_there m past (omega arith) (word_in m past) refl p tail marked.mark in
+            let same : stays.word ≡ tail_start = one_word stays.word tail_start (sym stays.there ∙ first) in
+            both (stays.word == tail_start) (eq-eqb stays.word tail_start same) stays.other
+      ]
 
   -- what is told stays so before the last
   watched_next : (j : ℕ) → suc j < n → IsWatched run (here + j) watch → IsWatched run (here + suc j) watch
@@ -177,8 +191,9 @@ module _ (config : Config) (thread events : ℕ) (run : ℕ → State) (here n :
       (blocks_stay watch.near (run (here + j)).core.memory (run (here + suc j)).core.memory watch.blocks.known (code_each j here_less) w.known)
       watch
       (none_settles (run (here + suc j)) watch w.near away)
-      (λ call p r. absurd (none_back run (here + j) watch w (ap (λ (t : State). is_near watch.near t.core.scalars.pc) (ap run (sym more)) ∙ away) call p r))
-      (subst (λ (t : State). ¬ IsCall (run (here + j)) t) (ap run more) (no_call j here_less)))
+      (λ call p r. absurd (none_back run (here + j) watch w
+      (ap (λ (t : State). is_near watch.near t.core.scalars.pc) (ap run (sym more)) ∙ away) call p r))
+      (subst (λ (t : State). (p : Places) → ¬ IsMarkedCall p (run (here + j)) t) (ap run more) (no_mark j here_less)))
 
   pub watched_each : IsWatched run here watch → (j : ℕ) → j < n → IsWatched run (here + j) watch
   watched_each w zero l = let none : here + 0 ≡ here = omega arith in subst (λ i. IsWatched run i watch) (sym none) w

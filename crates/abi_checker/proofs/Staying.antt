@@ -1,18 +1,17 @@
 -- Blocks, and code that stays as it is.
 use Rattle.std.proofs.Common.{inl, inr, ◌≡◌, ℕ, zero, suc, ◌+◌, ◌-◌, ◌*◌, ◌/◌, ◌%◌, ◌^◌, ◌<◌, ◌≤◌, Bool, true, false, cond, List, length}
 use Rattle.std.proofs.Common.{get_or, Option, Some, None, refl, ap, sym, ◌∙◌, subst, arith, replicate}
-use Rattle.std.specs.Prelude.{◌||◌, IsSome, is_some, option_map, slice_set, unwrap_or}
+use Rattle.std.specs.Prelude.{IfSome, IsSome, is_some, not, option_map, slice_set, unwrap_or}
 use Rattle.std.specs.FinMap.{get}
 use Rattle.std.proofs.lemmas.List.Elements.{All-set}
 use Rattle.sm_types.specs.Bytes.{little_number}
 use Rattle.lone_runner.proofs.Partings.{compared}
 use Rattle.paged_memory.specs.Memory.{AddressSpace, byte_with, bytes_with, permitted, permits, word_at, first_without, unless_there}
-use Rattle.machine_step.specs.declared.machine.Machine.{Machine}
 use Rattle.lazy_saving.specs.Code.{place_of}
 use Rattle.lazy_saving.proofs.Lawful.{byte_same, bytes_same}
-use Rattle.abi_checker.specs.Marks.{word_in, is_call_word}
+use Rattle.abi_checker.specs.Marks.{word_in}
 use Rattle.abi_checker.specs.Near.{is_near}
-use Rattle.abi_checker.specs.Straight.{KeepsCode, CanFollow, IsBlock, AreBlocks, is_plain_word, is_jump_word}
+use Rattle.abi_checker.specs.Straight.{KeepsCode, CanFollow, IsBehind, IsNoTail, IsUnmarkedWord, IsBlock, AreBlocks, is_plain_word}
 use Rattle.abi_checker.specs.declared.blocks.Block.{Block}
 use Rattle.abi_checker.proofs.Words.{of_bytes, word_any}
 
@@ -34,13 +33,31 @@ code_on m n o a b = record {
 round_twice : (a b j : ℕ) → ((a + b) % 2 ^ 64 + j) % 2 ^ 64 ≡ (a + (b + j)) % 2 ^ 64
 round_twice a b j = omega arith
 
-word_stays : (m n : AddressSpace) (from count i : ℕ) → KeepsCode m n → ((j : ℕ) → j < 4 * count → byte_with 2 m ((from + j) % 2 ^ 64) ≡ None)
+word_stays : (m n : AddressSpace) (from count i : ℕ) → KeepsCode m n
+    → ((j : ℕ) → j < 4 * count → byte_with 2 m ((from + j) % 2 ^ 64) ≡ None)
     → i < count → word_in n (place_of from i) ≡ word_in m (place_of from i)
 word_stays m n from count i k fixed less =
     ap (option_map little_number)
     (bytes_same 0 m n (place_of from i) 4
     (λ j l. byte_stays 0 m n ((place_of from i + j) % 2 ^ 64) k
     (ap (byte_with 2 m) (round_twice from (4 * i) j) ∙ fixed (4 * i + j) (omega (arith, less, l)))))
+
+-- a word that is not the first of the tail, and may not be written
+pub no_tail_stays : (m n : AddressSpace) (place : ℕ) → KeepsCode m n → IsNoTail m place → IsNoTail n place
+no_tail_stays m n place k h = record {
+  word = h.word;
+  there = ap (option_map little_number)
+      (bytes_same 0 m n place 4 (λ j l. byte_stays 0 m n ((place + j) % 2 ^ 64) k (h.fixed j l)))
+      ∙ h.there;
+  other = h.other;
+  fixed = λ j l. byte_stays 2 m n ((place + j) % 2 ^ 64) k (h.fixed j l) ∙ h.fixed j l;
+}
+
+unmarked_stays : (m n : AddressSpace) (word past : ℕ) → KeepsCode m n → IsUnmarkedWord m word past → IsUnmarkedWord n word past
+unmarked_stays m n word past k h = elim h as (λ _. IsUnmarkedWord n word past) [
+  | inl none ↦ inl none
+  | inr other ↦ inr (no_tail_stays m n past k other)
+]
 
 pub block_stays : (near : List Bool) (m n : AddressSpace) (from count : ℕ) → KeepsCode m n → IsBlock near m from count
     → IsBlock near n from count
@@ -49,7 +66,7 @@ block_stays near m n from count k h = record {
   fixed = λ i l. byte_stays 2 m n ((from + i) % 2 ^ 64) k (h.fixed i l) ∙ h.fixed i l;
   words = λ i l.
       let w = h.words i l in
-      (w.0, word_stays m n from count i k h.fixed l ∙ w.1, w.2, w.3);
+      (w.0, word_stays m n from count i k h.fixed l ∙ w.1, unmarked_stays m n w.0 (place_of from (suc i)) k w.2);
   plain = λ i word l e. h.plain i word l (sym (word_stays m n from count i k h.fixed (omega (arith, l))) ∙ e);
   away = h.away;
 }
@@ -91,12 +108,12 @@ block_set near m blocks slot from count h b =
 abbrev pub IsFixedPage : AddressSpace → ℕ → Type 0
 IsFixedPage m from = (q : ℕ) → q / 4096 ≡ from / 4096 → byte_with 2 m q ≡ None
 
--- so many words from an address on, none of which may be written or is a call; each is plain, and at none but
--- the first a call comes back
+-- so many words from an address on, none of which may be written or is a call that may be marked; each is plain,
+-- and at none but the first a call comes back
 pub record IsRun (near : List Bool) (m : AddressSpace) (from count : ℕ) : Type 0 where
   pub fixed : (i : ℕ) → i < 4 * count → byte_with 2 m ((from + i) % 2 ^ 64) ≡ None
   pub words : (i : ℕ) → i < count → (word : ℕ) × (word_in m (place_of from i) ≡ Some word)
-      × (is_call_word word ≡ false) × (is_plain_word word ≡ true)
+      × IsUnmarkedWord m word (place_of from (suc i)) × (is_plain_word word ≡ true)
   pub away : (i : ℕ) → 0 < i → i < count → is_near near (place_of from i) ≡ false
 
 pub run_first : (near : List Bool) (m : AddressSpace) (from : ℕ) → IsRun near m from 0
@@ -105,14 +122,6 @@ run_first near m from = record {
   words = λ i l. absurd (omega (arith, l));
   away = λ i some l. absurd (omega (arith, l));
 }
-
-pub or_left : (a b : Bool) → a ≡ true → (a || b) ≡ true
-or_left true b e = refl
-or_left false b e = cc
-
-pub or_right : (a b : Bool) → b ≡ true → (a || b) ≡ true
-or_right true b e = refl
-or_right false b e = e
 
 module _ (near : List Bool) (m : AddressSpace) (from count : ℕ) (small : from < 2 ^ 64) (r : IsRun near m from count) where
   one_word : (i v w : ℕ) → word_in m (place_of from i) ≡ Some v → word_in m (place_of from i) ≡ Some w → v ≡ w
@@ -123,7 +132,7 @@ module _ (near : List Bool) (m : AddressSpace) (from count : ℕ) (small : from 
     small = small;
     fixed = r.fixed;
     words = λ i l.
-        let w = r.words i l in (w.0, w.1, w.2, or_left (is_plain_word w.0) (is_jump_word w.0) w.3);
+        let w = r.words i l in (w.0, w.1, w.2);
     plain = λ i word l e.
         let w = r.words i (omega (arith, l)) in
         subst (λ n. is_plain_word n ≡ true) (one_word i w.0 word w.1 e) w.3;
@@ -134,10 +143,27 @@ module _ (near : List Bool) (m : AddressSpace) (from count : ℕ) (small : from 
     fixed_more : (i : ℕ) → i < 4 * (count + 1) → byte_with 2 m ((from + i) % 2 ^ 64) ≡ None
     fixed_more i l = elim (compared i (4 * count)) as (λ _. byte_with 2 m ((from + i) % 2 ^ 64) ≡ None) [
       | inl less ↦ r.fixed i less
-      | inr (inl same) ↦ page ((from + i) % 2 ^ 64) (ap (λ n. (from + n) % 2 ^ 64 / 4096) (omega (arith, same)) ∙ f.page 0 (omega arith))
+      | inr (inl same) ↦
+          page ((from + i) % 2 ^ 64)
+          (ap (λ n. (from + n) % 2 ^ 64 / 4096) (omega (arith, same)) ∙ f.behind.page 0 (omega arith))
       | inr (inr more) ↦
           let rest : i ≡ 4 * count + (i - 4 * count) = omega (arith, more) in
-          page ((from + i) % 2 ^ 64) (ap (λ n. (from + n) % 2 ^ 64 / 4096) rest ∙ f.page (i - 4 * count) (omega (arith, l, more)))
+          page ((from + i) % 2 ^ 64)
+          (ap (λ n. (from + n) % 2 ^ 64 / 4096) rest ∙ f.behind.page (i - 4 * count) (omega (arith, l, more)))
+    ]
+
+    -- the page of the first has the word behind a call too
+    unmarked_more : IsUnmarkedWord m word (place_of from (suc count))
+    unmarked_more = elim f.unmarked as (λ _. IsUnmarkedWord m word (place_of from (suc count))) [
+      | inl none ↦ inl none
+      | inr other ↦ inr (record {
+        word = other.word;
+        there = other.behind.there;
+        other = other.other;
+        fixed = λ j l.
+            page ((place_of from (suc count) + j) % 2 ^ 64)
+            (ap (λ n. n / 4096) (round_twice from (4 * suc count) j) ∙ other.behind.page j l);
+      })
     ]
 
     away_more : (i : ℕ) → 0 < i → i < count + 1 → is_near near (place_of from i) ≡ false
@@ -153,24 +179,34 @@ module _ (near : List Bool) (m : AddressSpace) (from count : ℕ) (small : from 
     run_more plain = record {
       fixed = fixed_more;
       words = λ i l.
-          elim (compared i count) as (λ _. (w : ℕ) × (word_in m (place_of from i) ≡ Some w) × (is_call_word w ≡ false) × (is_plain_word w ≡ true)) [
+          elim (compared i count) as (λ _. (w : ℕ) × (word_in m (place_of from i) ≡ Some w)
+          × IsUnmarkedWord m w (place_of from (suc i)) × (is_plain_word w ≡ true)) [
             | inl less ↦ r.words i less
-            | inr (inl same) ↦ (word, ap (λ n. word_in m (place_of from n)) same ∙ f.there, f.call, plain)
+            | inr (inl same) ↦ (
+              word,
+              ap (λ n. word_in m (place_of from n)) same ∙ f.behind.there,
+              subst (λ n. IsUnmarkedWord m word (place_of from (suc n))) (sym same) unmarked_more,
+              plain,
+            )
             | inr (inr more) ↦ absurd (omega (arith, l, more))
           ];
       away = away_more;
     }
 
-    -- and with a jump behind it
-    pub run_jump : is_jump_word word ≡ true → IsBlock near m from (count + 1)
-    run_jump jump = record {
+    -- and with one of any kind behind it
+    pub run_last : IsBlock near m from (count + 1)
+    run_last = record {
       small = small;
       fixed = fixed_more;
       words = λ i l.
-          elim (compared i count) as (λ _. (w : ℕ) × (word_in m (place_of from i) ≡ Some w) × (is_call_word w ≡ false) × ((is_plain_word w || is_jump_word w) ≡ true)) [
-            | inl less ↦ let w = r.words i less in (w.0, w.1, w.2, or_left (is_plain_word w.0) (is_jump_word w.0) w.3)
-            | inr (inl same) ↦
-                (word, ap (λ n. word_in m (place_of from n)) same ∙ f.there, f.call, or_right (is_plain_word word) (is_jump_word word) jump)
+          elim (compared i count) as (λ _. (w : ℕ) × (word_in m (place_of from i) ≡ Some w)
+          × IsUnmarkedWord m w (place_of from (suc i))) [
+            | inl less ↦ let w = r.words i less in (w.0, w.1, w.2)
+            | inr (inl same) ↦ (
+              word,
+              ap (λ n. word_in m (place_of from n)) same ∙ f.behind.there,
+              subst (λ n. IsUnmarkedWord m word (place_of from (suc n))) (sym same) unmarked_more,
+            )
             | inr (inr more) ↦ absurd (omega (arith, l, more))
           ];
       plain = λ i w l e.
@@ -236,10 +272,15 @@ page_on from count j l same within =
     let sum : (from + (4 * count + j)) % 2 ^ 64 ≡ place_of from count + j = omega (arith, l, within) in
     ap (λ n. n / 4096) sum ∙ page_near (place_of from count) j l within ∙ same
 
--- the word that a machine fetches
-pub word_fetched : (machine now : Machine) (o : Option ℕ) (word : ℕ) → machine ≡ now
-    → o ≡ word_at machine.pages.memory machine.scalars.pc → o ≡ Some word
-    → word_in now.pages.memory now.scalars.pc ≡ Some word
-word_fetched machine now o word same is told =
-    sym (word_any now.pages.memory now.scalars.pc word
-    (ap (λ (k : Machine). word_at k.pages.memory k.scalars.pc) (sym same) ∙ sym is ∙ told))
+-- what is fetched there stands behind so many
+pub behind_if : (m : AddressSpace) (from count : ℕ) (o : Option ℕ) → o ≡ word_at m (place_of from count)
+    → place_of from count / 4096 ≡ from / 4096 → place_of from count % 4096 ≤ 4092 → IfSome o (λ word. IsBehind m from count word)
+behind_if m from count None is page within = tt
+behind_if m from count (Some word) is page within = record {
+  page = λ j l. page_on from count j l page within;
+  there = sym (word_any m (place_of from count) word (sym is));
+}
+
+pub not_true : (b : Bool) → not b ≡ true → b ≡ false
+not_true true e = cc
+not_true false e = refl

@@ -76,7 +76,7 @@ module _ (run : ℕ → State) (n : ℕ) (old : Watch) (s : State) (w : IsWatche
         }
 
     pub went_uncalled : IsPast (run n) (run (suc n)) None → IsToldNext run (suc n) None mid
-    went_uncalled apart = unmarked_watched mid refl refl settled.near (settled.known s.core.memory known) (λ p h. apart h.call)
+    went_uncalled apart = unmarked_watched mid refl refl settled.near (settled.known s.core.memory known) apart
 
     module _ (past : ℕ) (new : Watch) (call : IsPast (run n) (run (suc n)) (Some past)) (whole : IsWholeAt run (suc n))
         (near : AreNear new.near new.calls.items)

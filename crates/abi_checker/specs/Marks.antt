@@ -53,6 +53,10 @@ past_call old = (old.core.scalars.pc + 4) % 2 ^ 64
 abbrev pub word_in : AddressSpace → ℕ → Option ℕ
 word_in m a = option_map little_number (bytes_with 0 m a 4)
 
+-- the first word of the tail: SMSTART ZA
+abbrev pub tail_start : ℕ
+tail_start = 0xD503457F
+
 -- these words are in memory, one after another
 abbrev pub AreWords : AddressSpace → ℕ → List ℕ → Type 0
 AreWords m a words = (k word : ℕ) → slice_get words k ≡ Some word → word_in m (place_of a k) ≡ Some word

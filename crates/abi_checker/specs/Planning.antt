@@ -1,8 +1,7 @@
 -- The turns that the code makes next: those of a block, or one.
-use Rattle.std.specs.Prelude.{◌≡◌, ◌⊎◌, ℕ, ◌<◌, ◌||◌, Bool, true, List, Some, None, IfSome, IfNone}
+use Rattle.std.specs.Prelude.{◌≡◌, ◌⊎◌, ◌<◌, Bool, List, None, IfSome, IfNone}
 use Rattle.kernel_contexts.specs.State.{State}
-use Rattle.abi_checker.specs.Marks.{word_in}
-use Rattle.abi_checker.specs.Straight.{IsBlock, is_plain_word, is_jump_word}
+use Rattle.abi_checker.specs.Straight.{IsBlock}
 use Rattle.abi_checker.specs.Watching.{IsNextCall, IsNoCall}
 use Rattle.abi_checker.specs.declared.blocks.Next.{Next}
 
@@ -17,8 +16,6 @@ pub record IsOfOne (s : State) (next : Next) : Type 0 where
   pub one : next.most ≡ 1
   pub calls : IfSome next.call (λ past. IsNextCall s past)
   pub none : IfNone next.call (IsNoCall s)
-  pub keeps : next.keeps ≡ true → (word : ℕ) × (word_in s.core.memory s.core.scalars.pc ≡ Some word)
-      × ((is_plain_word word || is_jump_word word) ≡ true)
 
 abbrev pub IsPlanned : List Bool → State → Next → Type 0
 IsPlanned near s next = IsOfBlock near s next ⊎ IsOfOne s next

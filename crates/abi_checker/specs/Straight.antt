@@ -1,12 +1,12 @@
 -- Runs of instructions that go on one after another, and code that stays as it is.
 -- Source: DDI 0487, C4.1 (the top-level encodings).
-use Rattle.std.specs.Prelude.{◌≡◌, ℕ, suc, ◌+◌, ◌*◌, ◌/◌, ◌%◌, ◌^◌, ◌<◌, ◌==◌, ◌&&◌, ◌||◌, not, bit_and, Bool, true}
+use Rattle.std.specs.Prelude.{◌≡◌, ℕ, suc, ◌+◌, ◌*◌, ◌/◌, ◌%◌, ◌^◌, ◌<◌, ◌==◌, ◌||◌, ◌⊎◌, bit_and, Bool, true}
 use Rattle.std.specs.Prelude.{false, List, Some, None}
 use Rattle.std.specs.List.{All}
 use Rattle.std.specs.FinMap.{get}
 use Rattle.paged_memory.specs.Memory.{AddressSpace, byte_with}
 use Rattle.lazy_saving.specs.Code.{place_of}
-use Rattle.abi_checker.specs.Marks.{word_in, is_call_word}
+use Rattle.abi_checker.specs.Marks.{word_in, is_call_word, tail_start}
 use Rattle.abi_checker.specs.Near.{is_near}
 use Rattle.abi_checker.specs.declared.blocks.Block.{Block}
 
@@ -25,30 +25,47 @@ is_plain_word word =
     || (has_bits 0x9E000000 0x80000000 word
     || has_bits 0xFF000000 0xD5000000 word)))
 
--- branches (bits 28 to 26 are 101), but not the system instructions and exceptions (31 to 25 are 1101010)
-abbrev pub is_jump_word : ℕ → Bool
-is_jump_word word = has_bits 0x1C000000 0x14000000 word && not (has_bits 0xFE000000 0xD4000000 word)
-
 -- the permissions are as they were, and so is each byte that may not be written
 pub record KeepsCode (old new : AddressSpace) : Type 0 where
   pub perm : new.perm ≡ old.perm
   pub bytes : (q : ℕ) → byte_with 2 old q ≡ None → get new.mem q ≡ get old.mem q
 
--- a word that stands behind so many of a block and in the same page, and is no call; where it is not the first,
--- no call comes back to it
-pub record CanFollow (near : List Bool) (m : AddressSpace) (from count word : ℕ) : Type 0 where
+-- a word stands behind so many from an address on, in the same page
+pub record IsBehind (m : AddressSpace) (from count word : ℕ) : Type 0 where
   pub page : (j : ℕ) → j < 4 → (from + (4 * count + j)) % 2 ^ 64 / 4096 ≡ from / 4096
   pub there : word_in m (place_of from count) ≡ Some word
-  pub call : is_call_word word ≡ false
+
+-- another word than the first of the tail stands there
+pub record IsNoTailBehind (m : AddressSpace) (from count : ℕ) : Type 0 where
+  pub word : ℕ
+  pub behind : IsBehind m from count word
+  pub other : (word == tail_start) ≡ false
+
+-- a word that stands behind so many of a block, and is no call, or one behind which there is no tail; where it is
+-- not the first, no call comes back to it
+pub record CanFollow (near : List Bool) (m : AddressSpace) (from count word : ℕ) : Type 0 where
+  pub behind : IsBehind m from count word
+  pub unmarked : (is_call_word word ≡ false) ⊎ IsNoTailBehind m from (suc count)
   pub away : 0 < count → is_near near (place_of from count) ≡ false
 
--- so many words from an address on, none of which may be written or is a call; each but the last, which may be a
--- jump, is plain, and at none but the first a call comes back
+-- at an address there is another word than the first of the tail, and it may not be written
+pub record IsNoTail (m : AddressSpace) (place : ℕ) : Type 0 where
+  pub word : ℕ
+  pub there : word_in m place ≡ Some word
+  pub other : (word == tail_start) ≡ false
+  pub fixed : (j : ℕ) → j < 4 → byte_with 2 m ((place + j) % 2 ^ 64) ≡ None
+
+-- the word is no call, or one that stays unmarked: behind it there is no tail
+abbrev pub IsUnmarkedWord : AddressSpace → ℕ → ℕ → Type 0
+IsUnmarkedWord m word past = (is_call_word word ≡ false) ⊎ IsNoTail m past
+
+-- so many words from an address on, none of which may be written or is a call that may be marked; each but the
+-- last is plain, and at none but the first a call comes back
 pub record IsBlock (near : List Bool) (m : AddressSpace) (from count : ℕ) : Type 0 where
   pub small : from < 2 ^ 64
   pub fixed : (i : ℕ) → i < 4 * count → byte_with 2 m ((from + i) % 2 ^ 64) ≡ None
   pub words : (i : ℕ) → i < count → (word : ℕ) × (word_in m (place_of from i) ≡ Some word)
-      × (is_call_word word ≡ false) × ((is_plain_word word || is_jump_word word) ≡ true)
+      × IsUnmarkedWord m word (place_of from (suc i))
   pub plain : (i word : ℕ) → suc i < count → word_in m (place_of from i) ≡ Some word
       → is_plain_word word ≡ true
   pub away : (i : ℕ) → 0 < i → i < count → is_near near (place_of from i) ≡ false

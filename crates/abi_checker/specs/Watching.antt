@@ -6,7 +6,7 @@ use Rattle.paged_memory.specs.Memory.{AddressSpace, word_at}
 use Rattle.kernel_contexts.specs.State.{State}
 use Rattle.za_routines.specs.Places.{places_of}
 use Rattle.lazy_saving.specs.Dormant.{Places, IsDormantAt}
-use Rattle.abi_checker.specs.Marks.{HasMark, IsCall, IsBackFrom, is_call_word, past_call}
+use Rattle.abi_checker.specs.Marks.{HasMark, IsCall, IsMarkedCall, IsBackFrom, is_call_word, past_call}
 use Rattle.abi_checker.specs.Faults.{IsMarkedAt, HasFault, HasReturned, IsFirstFault, AreLawful, block_of}
 use Rattle.abi_checker.specs.Whole.{AreWhole}
 use Rattle.abi_checker.specs.Near.{is_near}
@@ -29,10 +29,10 @@ pub record IsNextCall (s : State) (past : ℕ) : Type 0 where
 abbrev pub IsNoCall : State → Type 0
 IsNoCall s = (word : ℕ) → word_at s.core.memory s.core.scalars.pc ≡ Some word → is_call_word word ≡ false
 
--- the turn is a call, and this is the address past it; or it is none
+-- the turn is a call, and this is the address past it; or it is no marked call
 abbrev pub IsPast : State → State → Option ℕ → Type 0
 IsPast s t (Some past) = IsCall s t × (past ≡ past_call s)
-IsPast s t None = ¬ IsCall s t
+IsPast s t None = (p : Places) → ¬ IsMarkedCall p s t
 
 -- ---- the places to which calls come back
 

@@ -1,14 +1,12 @@
-//! Runs of instructions at which nothing is told: none is a call, and to none but the first a call comes back.
-ghost use Rattle.std.specs.Prelude.{◌≡◌, ◌||◌, ◌/◌, ◌<◌, ℕ, List, Bool, true, IsTrue, IfSome, Some, None};
-ghost use Rattle.kernel_contexts.specs.Context.{state_of};
+//! Runs of instructions at which nothing is told: none is a call that may be marked, and to none but the first a
+//! call comes back.
+ghost use Rattle.std.specs.Prelude.{◌≡◌, ◌/◌, ◌<◌, ◌≤◌, ℕ, List, Bool, IsTrue, IfSome, None};
 ghost use Rattle.paged_memory.specs.Memory.{AddressSpace, byte_with};
-ghost use Rattle.abi_checker.specs.Marks.{word_in};
 ghost use Rattle.abi_checker.specs.Straight as straight;
-ghost use Rattle.abi_checker.specs.Straight.{AreBlocks, CanFollow, IsBlock};
+ghost use Rattle.abi_checker.specs.Straight.{AreBlocks, CanFollow, IsBehind, IsBlock, IsNoTailBehind};
 
-use crate::marks::is_call_word;
+use crate::marks::{TAIL_START, is_call_word};
 use crate::near::{SLOTS, slot_of};
-use kernel_contexts::Context;
 use paged_memory::Pages;
 use sm_types::Access;
 
@@ -16,7 +14,7 @@ use sm_types::Access;
 const LONGEST: u32 = 16;
 
 /// So many instructions from an address on, whose words may not be written: each but the last goes on to the
-/// next one, and after the last, which may be a jump, the words are as they were.
+/// next one; the last may be any but a call that may be marked.
 #[derive(Clone, Copy)]
 pub struct Block {
     pub from: u64,
@@ -41,14 +39,6 @@ fn is_plain_word(word: u32) -> bool
         || word & 0xFF00_0000 == 0xD500_0000
 }
 
-/// Whether a word is that of a branch.
-#[inline]
-fn is_jump_word(word: u32) -> bool
-    ensures { result ≡ straight.is_jump_word word }
-{
-    word & 0x1C00_0000 == 0x1400_0000 && word & 0xFE00_0000 != 0xD400_0000
-}
-
 /// Whether the page of an address can be executed and not written.
 fn is_fixed(pages: &Pages, address: u64) -> bool
     ensures { IsTrue result
@@ -60,21 +50,41 @@ fn is_fixed(pages: &Pages, address: u64) -> bool
     }
 }
 
-/// The word behind so many of a block, if it may be one of it: it stands in the same page, is no call, and no
-/// call comes back to it.
-fn next_word(pages: &Pages, from: u64, count: u32, near: &[bool; SLOTS]) -> Option<u32>
-    requires { count < 16 }
-    ensures { IfSome result (λ word. CanFollow near.now pages.now.memory from count word) }
+/// The word behind so many from an address on, if it stands in the same page.
+fn word_behind(pages: &Pages, from: u64, count: u32) -> Option<u32>
+    requires { count ≤ 16 }
+    ensures { IfSome result (λ word. IsBehind pages.now.memory from count word) }
 {
     let place = from.wrapping_add(4 * u64::from(count));
     if place / 4096 != from / 4096 || place % 4096 > 4092 {
         return None;
     }
+    pages.fetch(place)
+}
+
+/// Whether another word than the first of the tail is known to stand behind so many.
+fn has_no_tail(pages: &Pages, from: u64, count: u32) -> bool
+    requires { count ≤ 16 }
+    ensures { IsTrue result → IsNoTailBehind pages.now.memory from count }
+{
+    match word_behind(pages, from, count) {
+        Some(word) => word != TAIL_START,
+        None => false,
+    }
+}
+
+/// The word behind so many of a block, if it may be one of it: it stands in the same page, is no call behind
+/// which the tail may stand, and no call comes back to it.
+fn next_word(pages: &Pages, from: u64, count: u32, near: &[bool; SLOTS]) -> Option<u32>
+    requires { count < 16 }
+    ensures { IfSome result (λ word. CanFollow near.now pages.now.memory from count word) }
+{
+    let place = from.wrapping_add(4 * u64::from(count));
     if count > 0 && near[slot_of(place)] {
         return None;
     }
-    match pages.fetch(place) {
-        Some(word) if !is_call_word(word) => Some(word),
+    match word_behind(pages, from, count) {
+        Some(word) if !is_call_word(word) || has_no_tail(pages, from, count + 1) => Some(word),
         _ => None,
     }
 }
@@ -92,10 +102,10 @@ fn block_at(pages: &Pages, from: u64, near: &[bool; SLOTS]) -> u32
         let Some(word) = next_word(pages, from, count, near) else {
             return count;
         };
-        if !is_plain_word(word) {
-            return if is_jump_word(word) { count + 1 } else { count };
-        }
         count += 1;
+        if !is_plain_word(word) {
+            return count;
+        }
     }
     count
 }
@@ -105,35 +115,8 @@ fn block_at(pages: &Pages, from: u64, near: &[bool; SLOTS]) -> u32
 pub struct Next {
     /// How many at most.
     pub most: u32,
-    /// The address past the call at PC, if they are that one turn.
+    /// The address past the call at PC, if they are that one turn; else none of them is a marked call.
     pub call: Option<u64>,
-    /// Whether they leave code that may not be written as it is.
-    pub keeps: bool,
-}
-
-impl Next {
-    /// Whether nothing is to be told of the turns, but where a call comes back to: none is a call, and they leave
-    /// code that may not be written as it is.
-    #[inline]
-    pub fn is_quiet(self) -> bool
-        ensures keeps { IsTrue result → self.keeps ≡ true }
-        ensures call { IsTrue result → self.call ≡ None }
-    {
-        self.keeps && self.call.is_none()
-    }
-}
-
-/// Whether the instruction at PC is known to leave code that may not be written as it is.
-pub fn keeps_code(context: &Context) -> bool
-    ensures { IsTrue result → (word : ℕ) × (word_in (state_of context.now).core.memory
-        (state_of context.now).core.scalars.pc ≡ Some word)
-        × ((straight.is_plain_word word || straight.is_jump_word word) ≡ true) }
-{
-    let machine = context.machine();
-    match machine.pages.fetch(machine.scalars.pc) {
-        Some(word) => is_plain_word(word) || is_jump_word(word),
-        None => false,
-    }
 }
 
 impl Blocks {

@@ -15,7 +15,7 @@ use crate::abi::Abi;
 use crate::marks::next_call;
 use crate::watch::Watch;
 use crate::whole::context_is_whole;
-use kernel_contexts::Context;
+use kernel_contexts::{Context, contexts_are_plain};
 use lone_runner::{AloneFault, make_turn, parting};
 use paged_memory::Image;
 use shared_region::ReplayTicket;
@@ -47,16 +47,12 @@ fn go_at_once(context: &mut Context, count: u32, watch: &mut Watch) -> Result<Op
     'rounds: loop {
         let left = count - context.count();
         let next = watch.next_turns(context);
-        let quiet = next.is_quiet();
         let made = context.advance_several(next.most.min(left));
         if made == 0 {
             return Ok(None);
         }
         context_is_whole(context);
-        if watch.passes(context, quiet) {
-            continue;
-        }
-        let found = watch.tell(context, next.call, next.keeps, None)?;
+        let found = watch.tell(context, next.call, None)?;
         if found.is_some() {
             return Ok(found);
         }
@@ -108,6 +104,7 @@ fn follow(
 {
     let mut found = None;
     'turns: loop {
+        contexts_are_plain(context);
         let call = next_call(context);
         let before = context.count();
         let stop = make_turn(context, ticket)?;
@@ -117,7 +114,7 @@ fn follow(
         }
         context_is_whole(context);
         let past = call_made(call, before, context.count());
-        found = watch.tell(context, past, false, found)?;
+        found = watch.tell(context, past, found)?;
         if stop.is_some() {
             return Ok(watch.answer(found));
         }

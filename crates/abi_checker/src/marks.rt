@@ -68,13 +68,16 @@ fn tail_words(call: u32) -> [u32; 6]
     words
 }
 
+/// The first word of the tail: SMSTART ZA.
+pub const TAIL_START: u32 = 0xD503_457F;
+
 /// Whether the first word of a tail is at an address; where it is not, there is no tail.
 #[inline]
 fn has_first_word(pages: &Pages, tail: u64) -> bool
     ensures { (p : Places) → p.tail ≡ tail → HasMark pages.now.memory p → IsTrue result }
 {
     match word_in(pages, tail) {
-        Some(word) => word == 0xD503_457F,
+        Some(word) => word == TAIL_START,
         None => false,
     }
 }

@@ -1,6 +1,6 @@
 //! The marked calls of a run that is under way.
-ghost use Rattle.std.specs.Prelude.{◌≡◌, ◌+◌, ◌<◌, ◌≤◌, ◌^◌, [], ℕ, suc, true, false, not, Ok, Some, IfOk};
-ghost use Rattle.std.specs.Prelude.{IsTrue, length};
+ghost use Rattle.std.specs.Prelude.{◌≡◌, ◌+◌, ◌<◌, ◌≤◌, ◌^◌, [], ℕ, suc, true, false, not, Ok, IfOk};
+ghost use Rattle.std.specs.Prelude.{length};
 ghost use Rattle.std.specs.List.{All, Contains, filter};
 ghost use Rattle.kernel_contexts.specs.Context.{state_of, is_home};
 ghost use Rattle.kernel_contexts.specs.State.{State};
@@ -12,7 +12,7 @@ ghost use Rattle.paged_memory.specs.Memory.{AddressSpace};
 ghost use Rattle.abi_checker.specs.declared.open_call.OpenCall.{OpenCall};
 
 use crate::abi::{Abi, AbiKind};
-use crate::blocks::{Blocks, Next, keeps_code};
+use crate::blocks::{Blocks, Next};
 use crate::marks::{mark_at, next_call};
 use crate::near::{SLOTS, slot_of, slots_of};
 use crate::open_call::OpenCall;
@@ -154,21 +154,6 @@ impl Watch {
         Ok(None)
     }
 
-    /// Forgets the blocks, unless code that may not be written is as it was.
-    #[inline]
-    fn keep_blocks(&mut self, keeps: bool)
-        ensures known { (before after : AddressSpace) → (keeps ≡ true → KeepsCode before after)
-            → AreBlocks self.old.near before self.old.blocks.known
-            → AreBlocks self.new.near after self.new.blocks.known }
-        ensures calls { self.new.calls ≡ self.old.calls }
-        ensures returned { self.new.returned ≡ self.old.returned }
-        ensures near { self.new.near ≡ self.old.near }
-    {
-        if !keeps {
-            self.blocks = Blocks::none();
-        }
-    }
-
     /// The turns that are to be made next: those of a block, at none of which is anything told but in the state
     /// after the last, or one.
     #[inline]
@@ -186,33 +171,24 @@ impl Watch {
             return Next {
                 most: block,
                 call: None,
-                keeps: true,
             };
         }
         Next {
             most: 1,
             call: next_call(context),
-            keeps: keeps_code(context),
         }
     }
 
     /// Goes on to the state that the thread has come to by its turn, which was a call if there is an address
-    /// past it, and tells the first fault there; `keeps` says that the turn left code that may not be written
-    /// as it was. `Memory` is want of memory.
-    pub fn go_on(
-        &mut self,
-        context: &Context,
-        past: Option<u64>,
-        keeps: bool,
-    ) -> Result<Option<AbiKind>, Memory>
+    /// past it, and tells the first fault there. `Memory` is want of memory.
+    pub fn go_on(&mut self, context: &Context, past: Option<u64>) -> Result<Option<AbiKind>, Memory>
         requires home { is_home context.now ≡ true }
         requires somewhere { IsSomewhere self.old }
         ensures { (run : ℕ → State) (n : ℕ) → IsWatched run n self.old → run (suc n) ≡ state_of context.now
             → IsPast (run n) (run (suc n)) past → (run n).count ≤ (run (suc n)).count → IsWholeAt run (suc n)
-            → (keeps ≡ true → KeepsCode (run n).core.memory (run (suc n)).core.memory)
+            → KeepsCode (run n).core.memory (run (suc n)).core.memory
             → IfOk result (λ kind. IsToldNext run (suc n) kind self.new) }
     {
-        self.keep_blocks(keeps);
         if self.settle(context)? {
             return Ok(Some(AbiKind::NotLawful));
         }
@@ -224,11 +200,10 @@ impl Watch {
 
     /// Goes on so, where no fault was told before; one that was told is told again.
     #[inline(never)]
-    pub fn tell(
+    fn tell_there(
         &mut self,
         context: &Context,
         past: Option<u64>,
-        keeps: bool,
         found: Option<Abi>,
     ) -> Result<Option<Abi>, Memory>
         requires home { is_home context.now ≡ true }
@@ -236,13 +211,13 @@ impl Watch {
         ensures { (run : ℕ → State) (n : ℕ) → IsUnderWay run n self.old found
             → run (suc n) ≡ state_of context.now → IsPast (run n) (run (suc n)) past
             → (run n).count ≤ (run (suc n)).count → IsWholeAt run (suc n)
-            → (keeps ≡ true → KeepsCode (run n).core.memory (run (suc n)).core.memory)
+            → KeepsCode (run n).core.memory (run (suc n)).core.memory
             → IfOk result (λ told. IsUnderWay run (suc n) self.new told) }
     {
         if found.is_some() {
             return Ok(found);
         }
-        match self.go_on(context, past, keeps)? {
+        match self.go_on(context, past)? {
             Some(kind) => Ok(Some(Abi::No {
                 count: context.count(),
                 pc: context.machine().scalars.pc,
@@ -252,15 +227,26 @@ impl Watch {
         }
     }
 
-    /// Whether nothing is to be told where the thread has come to by turns that are quiet: no call comes back
-    /// there.
+    /// The same; at most turns nothing is to be told, as they were no call and no call comes back there.
     #[inline]
-    pub fn passes(&self, context: &Context, quiet: bool) -> bool
-        ensures quiet { IsTrue result → quiet ≡ true }
-        ensures away { IsTrue result
-            → is_near self.now.near (state_of context.now).core.scalars.pc ≡ false }
+    pub fn tell(
+        &mut self,
+        context: &Context,
+        past: Option<u64>,
+        found: Option<Abi>,
+    ) -> Result<Option<Abi>, Memory>
+        requires home { is_home context.now ≡ true }
+        requires somewhere { IsSomewhereWith self.old found }
+        ensures { (run : ℕ → State) (n : ℕ) → IsUnderWay run n self.old found
+            → run (suc n) ≡ state_of context.now → IsPast (run n) (run (suc n)) past
+            → (run n).count ≤ (run (suc n)).count → IsWholeAt run (suc n)
+            → KeepsCode (run n).core.memory (run (suc n)).core.memory
+            → IfOk result (λ told. IsUnderWay run (suc n) self.new told) }
     {
-        quiet && !self.is_near(context.machine().scalars.pc)
+        if past.is_none() && !self.is_near(context.machine().scalars.pc) {
+            return Ok(found);
+        }
+        self.tell_there(context, past, found)
     }
 
     /// What is told of a run that is at its end.

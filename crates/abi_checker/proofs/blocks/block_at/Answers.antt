@@ -1,5 +1,5 @@
 use Rattle.std.proofs.Common.{◌∙◌, sym}
-use Rattle.abi_checker.proofs.Staying.{run_first, run_block, run_more, run_jump}
+use Rattle.abi_checker.proofs.Staying.{run_first, run_block, run_more, run_last}
 use Rattle.abi_checker.proofs.blocks.block_at.Goals as goal
 
 pub words-init : goal.words-init
@@ -9,16 +9,11 @@ pub returns-in_default : goal.returns-in_default
 returns-in_default c =
     run_block c.args.near.now c.args.pages.now.memory c.args.from c.words.count c.ranges.from.fits c.words.invariant
 
-pub returns-then-is_jump_word : goal.returns-then-is_jump_word
-returns-then-is_jump_word c =
+pub returns-then-not-is_plain_word : goal.returns-then-not-is_plain_word
+returns-then-not-is_plain_word c =
     let m = c.args.pages.now.memory in
-    run_jump c.args.near.now m c.args.from c.words.count c.ranges.from.fits c.words.invariant
+    run_last c.args.near.now m c.args.from c.words.count c.ranges.from.fits c.words.invariant
     (c.is_fixed.ensures c.if-not-is_fixed.false) c.in-Some.word c.in-Some.ensures
-    (sym c.is_jump_word.ensures ∙ c.if-is_jump_word.true)
-
-pub returns-else-is_jump_word : goal.returns-else-is_jump_word
-returns-else-is_jump_word c =
-    run_block c.args.near.now c.args.pages.now.memory c.args.from c.words.count c.ranges.from.fits c.words.invariant
 
 pub words-preserved : goal.words-preserved
 words-preserved c =

@@ -6,7 +6,8 @@ pub returns-in_err-byte_in : goal.returns-in_err-byte_in
 returns-in_err-byte_in c =
     let none : c.from_residual.result ≡ None = search rules in
     none ∙ no_first _ _ _
-    ∙ word_is c.args.pages.now.memory c.args.address _ _ _ _ c.ranges.address.fits (sym c.in_err-byte_in.was ∙ c.byte_in.ensures) refl refl refl
+    ∙ word_is c.args.pages.now.memory c.args.address _ _ _ _ c.ranges.address.fits (sym c.in_err-byte_in.was ∙ c.byte_in.ensures) refl refl
+    refl
 
 pub returns-in_err-byte_in-2 : goal.returns-in_err-byte_in-2
 returns-in_err-byte_in-2 c =

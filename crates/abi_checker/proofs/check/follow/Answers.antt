@@ -55,7 +55,7 @@ answer-requires c =
     c.make_turn.new.context c.make_turn.new.ticket _ c.next_call-call.result c.call_made-past.result c.count-before.result
     c.count.result c.tell.new.self c.in_ok-found.found e.turn c.next_call-call.ensures.some c.next_call-call.ensures.none
     c.count-before.ensures c.count.ensures c.call_made-past.ensures e.same.config
-    c.context_is_whole.ensures c.in_ok-found.ensures)
+    c.contexts_are_plain.ensures c.context_is_whole.ensures c.in_ok-found.ensures)
 
 pub returns-then-is_some-clause-checked : goal.returns-then-is_some-clause-checked
 returns-then-is_some-clause-checked c =
@@ -66,7 +66,7 @@ returns-then-is_some-clause-checked c =
     c.make_turn.new.context c.make_turn.new.ticket _ c.next_call-call.result c.call_made-past.result c.count-before.result
     c.count.result c.tell.new.self c.in_ok-found.found e.turn c.next_call-call.ensures.some c.next_call-call.ensures.none
     c.count-before.ensures c.count.ensures c.call_made-past.ensures e.same.config
-    c.context_is_whole.ensures c.in_ok-found.ensures in
+    c.contexts_are_plain.ensures c.context_is_whole.ensures c.in_ok-found.ensures in
     checked_if _ _ _ _ _ c.turns.context c.turns.ticket h.same.config h.same.thread c.turns.watch c.turns.found h.followed
     c.make_turn.new.context c.make_turn.new.ticket _ c.answer.result (some_of _ (sym c.is_some.ensures ∙ c.if-is_some.true)) e.turn
     (sym c.parting.ensures ∙ c.in-None.is) (c.answer.ensures _ _ told)
@@ -81,8 +81,9 @@ go_far-requires-clause-some c =
     let told =
     told_on _ _ _ _ _ c.turns.context c.turns.ticket h.same.config h.same.thread c.turns.watch c.turns.found h.followed mid ticket _
     c.next_call-call.result c.call_made-past.result c.count-before.result c.count.result c.tell.new.self c.in_ok-found.found e.turn
-    c.next_call-call.ensures.some c.next_call-call.ensures.none c.count-before.ensures c.count.ensures c.call_made-past.ensures e.same.config
-    c.context_is_whole.ensures c.in_ok-found.ensures in
+    c.next_call-call.ensures.some c.next_call-call.ensures.none c.count-before.ensures c.count.ensures c.call_made-past.ensures
+    e.same.config
+    c.contexts_are_plain.ensures c.context_is_whole.ensures c.in_ok-found.ensures in
     let on : parting_at c.args.count (place_of mid ticket None) ≡ None =
     ap (λ o. parting_at c.args.count (place_of mid ticket o)) (sym none) ∙ sym c.parting.ensures ∙ c.in-None.is in
     by_some _ _ _ _ _ mid ticket c.tell.new.self c.in_ok-found.found (e.same.image ∙ h.same.image) (e.same.config ∙ h.same.config)
@@ -104,8 +105,9 @@ turns-preserved c =
     let told =
     told_on _ _ _ _ _ c.turns.context c.turns.ticket h.same.config h.same.thread c.turns.watch c.turns.found h.followed mid ticket _
     c.next_call-call.result c.call_made-past.result c.count-before.result c.count.result c.tell.new.self c.in_ok-found.found e.turn
-    c.next_call-call.ensures.some c.next_call-call.ensures.none c.count-before.ensures c.count.ensures c.call_made-past.ensures e.same.config
-    c.context_is_whole.ensures c.in_ok-found.ensures in
+    c.next_call-call.ensures.some c.next_call-call.ensures.none c.count-before.ensures c.count.ensures c.call_made-past.ensures
+    e.same.config
+    c.contexts_are_plain.ensures c.context_is_whole.ensures c.in_ok-found.ensures in
     let on : parting_at c.args.count (place_of mid ticket None) ≡ None =
     ap (λ o. parting_at c.args.count (place_of mid ticket o)) (sym none) ∙ sym c.parting.ensures ∙ c.in-None.is in
     let image = e.same.image ∙ h.same.image in

@@ -4,7 +4,8 @@ use Rattle.lazy_saving.specs.Dormant.{Places}
 use Rattle.abi_checker.specs.Marks.{HasMark, AreWords}
 use Rattle.abi_checker.proofs.Marked.{no_word, no_target, mark_words}
 use Rattle.abi_checker.proofs.marks.mark_at.Goals as goal
-use Rattle.abi_checker.proofs.marks.mark_at.Goals.{else-are_words-via-then-are_words+then-are_words-2+else-are_words-3, else-are_words-via-then-are_words+else-are_words-2, else-are_words-via-else-are_words}
+use Rattle.abi_checker.proofs.marks.mark_at.Goals.{else-are_words-via-then-are_words+then-are_words-2+else-are_words-3}
+use Rattle.abi_checker.proofs.marks.mark_at.Goals.{else-are_words-via-then-are_words+else-are_words-2, else-are_words-via-else-are_words}
 
 pub returns-then-not-has_first_word-clause-none : goal.returns-then-not-has_first_word-clause-none
 returns-then-not-has_first_word-clause-none c = λ p at h.
@@ -57,7 +58,8 @@ returns-else-are_words-clause-none c = λ p at h.
     elim c.else-are_words.branch [
       | else-are_words-via-then-are_words+then-are_words-2+else-are_words-3 w ↦
           let yes = w.are_words-then-are_words-2.ensures.1
-          (subst (λ ws. AreWords m ((c.in_ok-restore.restore + (2 ^ 64 - 80)) % 2 ^ 64) ws) (sym c.routines_are_listed.ensures.disable) all.2) in
+          (subst (λ ws. AreWords m ((c.in_ok-restore.restore + (2 ^ 64 - 80)) % 2 ^ 64) ws) (sym c.routines_are_listed.ensures.disable)
+          all.2) in
           let no = w.if-are_words-3.false in
           cc
       | else-are_words-via-then-are_words+else-are_words-2 w ↦

@@ -37,7 +37,8 @@ returns-clause-some c =
     let same : c.machine-machine.result.now ≡ c.args.context.now.guest.machine = search rules in
     let size : c.size.result ≡ length c.args.context.now.save_area.za.vectors =
     c.size.ensures.value ∙ sym c.size.ensures.square.count ∙ ap (λ (b : Bank). length b.za.vectors) c.bank.ensures.value in
-    let ready : IsReady (places_of c.args.places.now) c.machine-machine.result.now.pages.memory c.size.result c.args.address c.in_ok-block.block =
+    let ready : IsReady (places_of c.args.places.now) c.machine-machine.result.now.pages.memory c.size.result c.args.address
+    c.in_ok-block.block =
     c.is_ready.ensures.0 yes in
     subst
     (λ (m : Machine). IsKeptBytes (places_of c.args.places.now) c.args.address
@@ -54,7 +55,8 @@ returns-clause-some c =
         za_on = on;
         pointer = pointer;
         bytes = c.in_ok-block.block;
-        ready = subst (λ n. IsReady (places_of c.args.places.now) c.machine-machine.result.now.pages.memory n c.args.address c.in_ok-block.block) size
+        ready = subst (λ n. IsReady (places_of c.args.places.now) c.machine-machine.result.now.pages.memory n c.args.address
+            c.in_ok-block.block) size
             ready;
       };
       bytes = refl;

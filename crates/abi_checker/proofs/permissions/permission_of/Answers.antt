@@ -9,14 +9,16 @@ pub returns-then-list-index : goal.returns-then-list-index
 returns-then-list-index c = λ map is.
     let e : ℕ × ℕ = get_or c.args.list.now c.pages.index (0, 0) in
     sym (get-entries map c.args.number ∙ ap (λ es. find nat_cmp c.args.number es) is ∙ c.pages.invariant
-    ∙ find_here c.args.number c.args.list.now c.pages.index e.0 e.1 (slice_get-get_or c.args.list.now c.pages.index (0, 0) c.pages-test.true)
+    ∙ find_here c.args.number c.args.list.now c.pages.index e.0 e.1
+    (slice_get-get_or c.args.list.now c.pages.index (0, 0) c.pages-test.true)
     c.if-list-index.true)
 
 pub pages-preserved : goal.pages-preserved
 pages-preserved c =
     let e : ℕ × ℕ = get_or c.args.list.now c.pages.index (0, 0) in
     c.pages.invariant
-    ∙ find_later c.args.number c.args.list.now c.pages.index e.0 e.1 (slice_get-get_or c.args.list.now c.pages.index (0, 0) c.pages-test.true)
+    ∙ find_later c.args.number c.args.list.now c.pages.index e.0 e.1
+    (slice_get-get_or c.args.list.now c.pages.index (0, 0) c.pages-test.true)
     c.if-list-index.false
 
 pub returns : goal.returns

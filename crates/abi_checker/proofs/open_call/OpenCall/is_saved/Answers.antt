@@ -4,7 +4,8 @@ use Rattle.sve_vectors.specs.Layout.{items_of}
 use Rattle.lazy_saving.specs.Block.{buffer_of, saved_of}
 use Rattle.abi_checker.proofs.Rows.{at_most, row_long, few_saved, row_is, saved_at, saved_more, is_saved_slice, no_saved_slice}
 use Rattle.abi_checker.proofs.open_call.OpenCall.is_saved.Goals as goal
-use Rattle.abi_checker.proofs.open_call.OpenCall.is_saved.Goals.{else-done-saved-via-then-done-saved+else-not-has_row, else-done-saved-via-else-done-saved}
+use Rattle.abi_checker.proofs.open_call.OpenCall.is_saved.Goals.{else-done-saved-via-then-done-saved+else-not-has_row}
+use Rattle.abi_checker.proofs.open_call.OpenCall.is_saved.Goals.{else-done-saved-via-else-done-saved}
 
 not_yes : IsTrue false → ⊥
 not_yes e = cc

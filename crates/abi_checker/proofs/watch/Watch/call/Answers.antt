@@ -29,7 +29,8 @@ returns-clause-after c =
     let s = state_of c.args.context.now in
     let items : c.push.new.self.items ≡ c.args.self.now.calls.items ++ call ∷ [] = search rules in
     let kept : IsKept call s = subst (λ o. IfSome o (λ x. IsKept x s)) c.in-Some-2.is c.in_ok-call.ensures.kept in
-    let places : call.places ≡ c.in-Some.places = subst (λ o. IfSome o (λ (x : OpenCall). x.places ≡ c.in-Some.places)) c.in-Some-2.is c.in_ok-call.ensures.places in
+    let places : call.places ≡ c.in-Some.places =
+    subst (λ o. IfSome o (λ (x : OpenCall). x.places ≡ c.in-Some.places)) c.in-Some-2.is c.in_ok-call.ensures.places in
     let here : IsMarkedPast (places_of c.in-Some.places) s c.args.past = record {
       place = c.in-Some.ensures.tail;
       mark = subst (λ (m : Machine). HasMark m.pages.memory (places_of c.in-Some.places)) c.machine.ensures c.in-Some.ensures.some;
@@ -50,7 +51,8 @@ pub returns-clause-near : goal.returns-clause-near
 returns-clause-near c =
     let call : OpenCall = c.in-Some-2.call in
     let items : c.push.new.self.items ≡ c.args.self.now.calls.items ++ call ∷ [] = search rules in
-    let places : call.places ≡ c.in-Some.places = subst (λ o. IfSome o (λ (x : OpenCall). x.places ≡ c.in-Some.places)) c.in-Some-2.is c.in_ok-call.ensures.places in
+    let places : call.places ≡ c.in-Some.places =
+    subst (λ o. IfSome o (λ (x : OpenCall). x.places ≡ c.in-Some.places)) c.in-Some-2.is c.in_ok-call.ensures.places in
     let slot : c.slot_of.result ≡ slot_of call.places.tail =
     c.slot_of.ensures.value ∙ sym (ap (λ (p : RoutinePlaces). slot_of p.tail) places) in
     let below : c.slot_of.result < length c.args.self.now.near = search rules in

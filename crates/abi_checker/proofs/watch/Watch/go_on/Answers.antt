@@ -5,71 +5,52 @@ use Rattle.kernel_contexts.specs.Context.{state_of}
 use Rattle.paged_memory.specs.Memory.{AddressSpace}
 use Rattle.abi_checker.specs.Straight.{KeepsCode, AreBlocks}
 use Rattle.abi_checker.specs.Watching.{IsPast, AfterCall, AreNear, IsToldNext}
-use Rattle.abi_checker.proofs.Staying.{code_stays}
-use Rattle.abi_checker.proofs.Went.{went_unlawful, went_uncalled, went_called, all_of_some, settled_few, both_ok, same_watched}
+use Rattle.abi_checker.proofs.Staying.{blocks_stay}
+use Rattle.abi_checker.proofs.Went.{went_unlawful, went_uncalled, went_called, all_of_some, settled_few, both_ok}
 use Rattle.abi_checker.proofs.watch.Watch.go_on.Goals as goal
 
 pub settle-requires-clause-kept : goal.settle-requires-clause-kept
 settle-requires-clause-kept c =
     let here = c.requires.somewhere in
-    let m = (here.0 here.1).core.memory in
-    let k = c.keep_blocks.ensures in
-    all_of_some here.0 here.1 c.keep_blocks.new.self
-    (same_watched here.0 here.1 c.args.self.now c.keep_blocks.new.self here.2 k.calls k.returned k.near
-    (k.known m m (λ _. code_stays m) here.2.known))
+    all_of_some here.0 here.1 c.args.self.now here.2
 
 pub settle-requires-clause-few : goal.settle-requires-clause-few
 settle-requires-clause-few c =
     let here = c.requires.somewhere in
-    let m = (here.0 here.1).core.memory in
-    let k = c.keep_blocks.ensures in
-    let counted = (same_watched here.0 here.1 c.args.self.now c.keep_blocks.new.self here.2 k.calls k.returned k.near
-    (k.known m m (λ _. code_stays m) here.2.known)).counted in
+    let counted = here.2.counted in
     omega (arith, counted, here.3)
 
 pub settle-requires-clause-near : goal.settle-requires-clause-near
-settle-requires-clause-near c =
-    let here = c.requires.somewhere in
-    let m = (here.0 here.1).core.memory in
-    let k = c.keep_blocks.ensures in
-    (same_watched here.0 here.1 c.args.self.now c.keep_blocks.new.self here.2 k.calls k.returned k.near
-    (k.known m m (λ _. code_stays m) here.2.known)).near
+settle-requires-clause-near c = c.requires.somewhere.2.near
 
 pub returns-then-branch : goal.returns-then-branch
 returns-then-branch c = λ run n w e past grows whole code.
     let s = state_of c.args.context.now in
-    let m = (run n).core.memory in
-    let k = c.keep_blocks.ensures in
-    went_unlawful run n c.keep_blocks.new.self s
-    (same_watched run n c.args.self.now c.keep_blocks.new.self w k.calls k.returned k.near (k.known m m (λ _. code_stays m) w.known)) e
-    grows
-    (k.known m s.core.memory (λ t. subst (λ (u : State). KeepsCode m u.core.memory) e (code t)) w.known)
-    c.args.self.now
+    let old = c.args.self.now in
+    went_unlawful run n old s w e grows
+    (blocks_stay old.near (run n).core.memory s.core.memory old.blocks.known
+    (subst (λ (u : State). KeepsCode (run n).core.memory u.core.memory) e code) w.known)
+    old
     (c.in_ok-settle.ensures.yes (ap Ok c.if-branch.true))
 
 pub call-requires-clause-few : goal.call-requires-clause-few
 call-requires-clause-few c =
     let here = c.requires.somewhere in
-    let m = (here.0 here.1).core.memory in
-    let k = c.keep_blocks.ensures in
-    let few = (same_watched here.0 here.1 c.args.self.now c.keep_blocks.new.self here.2 k.calls k.returned k.near
-    (k.known m m (λ _. code_stays m) here.2.known)).few in
+    let few = here.2.few in
     let fewer =
-    settled_few (state_of c.args.context.now) c.keep_blocks.new.self c.settle.new.self
+    settled_few (state_of c.args.context.now) c.args.self.now c.settle.new.self
     (c.in_ok-settle.ensures.no (ap Ok c.if-branch.false)) in
     omega (arith, few, fewer)
 
 pub returns-in-Some : goal.returns-in-Some
 returns-in-Some c = λ run n w e past grows whole code.
     let s = state_of c.args.context.now in
-    let m = (run n).core.memory in
-    let k = c.keep_blocks.ensures in
-    let old = c.keep_blocks.new.self in
+    let old = c.args.self.now in
     let mid = c.settle.new.self in
     let new = c.call.new.self in
-    let kept =
-    same_watched run n c.args.self.now old w k.calls k.returned k.near (k.known m m (λ _. code_stays m) w.known) in
-    let known = k.known m s.core.memory (λ t. subst (λ (u : State). KeepsCode m u.core.memory) e (code t)) w.known in
+    let known =
+    blocks_stay old.near (run n).core.memory s.core.memory old.blocks.known
+    (subst (λ (u : State). KeepsCode (run n).core.memory u.core.memory) e code) w.known in
     both_ok c.call.result (λ kind. AfterCall s c.in-Some.past mid new kind)
     (λ kind. AreNear new.near new.calls.items
     × ((x : AddressSpace) → AreBlocks mid.near x mid.blocks.known → AreBlocks new.near x new.blocks.known))
@@ -80,17 +61,15 @@ returns-in-Some c = λ run n w e past grows whole code.
     × ((x : AddressSpace) → AreBlocks mid.near x mid.blocks.known → AreBlocks new.near x new.blocks.known)) c.call.ensures.near
     c.call.ensures.known (λ kind near blocks. (near, blocks)))
     (λ kind after both.
-    went_called run n old s kept e grows known mid (c.in_ok-settle.ensures.no (ap Ok c.if-branch.false)) (λ call p r. whole)
+    went_called run n old s w e grows known mid (c.in_ok-settle.ensures.no (ap Ok c.if-branch.false)) (λ call p r. whole)
     c.in-Some.past new (subst (λ o. IsPast (run n) (run (suc n)) o) c.in-Some.is past) whole both.0 both.1 kind after)
 
 pub returns-in-None : goal.returns-in-None
 returns-in-None c = λ run n w e past grows whole code.
     let s = state_of c.args.context.now in
-    let m = (run n).core.memory in
-    let k = c.keep_blocks.ensures in
-    let old = c.keep_blocks.new.self in
-    let kept =
-    same_watched run n c.args.self.now old w k.calls k.returned k.near (k.known m m (λ _. code_stays m) w.known) in
-    let known = k.known m s.core.memory (λ t. subst (λ (u : State). KeepsCode m u.core.memory) e (code t)) w.known in
-    went_uncalled run n old s kept e grows known c.settle.new.self (c.in_ok-settle.ensures.no (ap Ok c.if-branch.false))
+    let old = c.args.self.now in
+    let known =
+    blocks_stay old.near (run n).core.memory s.core.memory old.blocks.known
+    (subst (λ (u : State). KeepsCode (run n).core.memory u.core.memory) e code) w.known in
+    went_uncalled run n old s w e grows known c.settle.new.self (c.in_ok-settle.ensures.no (ap Ok c.if-branch.false))
     (λ call p r. whole) (subst (λ o. IsPast (run n) (run (suc n)) o) c.in-None.is past)

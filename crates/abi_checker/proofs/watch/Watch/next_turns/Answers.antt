@@ -18,5 +18,4 @@ returns-clause-watched c = λ run n w e.
 
 pub returns-clause-planned : goal.returns-clause-planned
 returns-clause-planned c = λ run n w e.
-    one_planned run n c.args.self.now c.args.context.now e c.next_call.result c.keeps_code.result c.next_call.ensures.some
-    c.next_call.ensures.none c.keeps_code.ensures
+    one_planned run n c.args.self.now c.args.context.now e c.next_call.result c.next_call.ensures.some c.next_call.ensures.none

@@ -8,7 +8,8 @@ use Rattle.abi_checker.specs.Keeping.{IsKept}
 use Rattle.abi_checker.specs.Returning.{IsOfSome, IsFine}
 use Rattle.abi_checker.proofs.Settled.{fine_more}
 use Rattle.abi_checker.proofs.watch.Watch.returns_unlawfully.Goals as goal
-use Rattle.abi_checker.proofs.watch.Watch.returns_unlawfully.Goals.{else-is_back-via-then-is_back+in_ok-is_lawful+else-not-branch, else-is_back-via-else-is_back}
+use Rattle.abi_checker.proofs.watch.Watch.returns_unlawfully.Goals.{else-is_back-via-then-is_back+in_ok-is_lawful+else-not-branch}
+use Rattle.abi_checker.proofs.watch.Watch.returns_unlawfully.Goals.{else-is_back-via-else-is_back}
 
 pub is_lawful-requires-clause-kept : goal.is_lawful-requires-clause-kept
 is_lawful-requires-clause-kept c =
