@@ -19,7 +19,8 @@ use Rattle.kernel_contexts.specs.HandlerRun.{IsPlain, HandlerRun, IsKeptOver}
 use Rattle.lazy_saving.specs.Interleaved.{SameBut, IsOver}
 use Rattle.lazy_saving.proofs.Interleaved.{same_itself, over_and_same, one_over}
 use Rattle.za_routines.specs.Ways.{Place, IsTurn, IsPollTurn, IsOwnTurn, Step, Polls, Handles, Executes, AreSteps}
-use Rattle.za_routines.specs.Ways.{own_instructions}
+use Rattle.za_routines.specs.Ways.{own_instructions, IsLater, ArePlainBetween}
+use Rattle.za_routines.proofs.Later.{later_self, later_later, step_later, steps_later}
 
 -- ---- one turn
 
@@ -89,30 +90,36 @@ module _ (brings : BringsBack) (config : Config) (thread : ℕ) (area : ℕ → 
   abbrev Over : ℕ → ProcessorState → Type 0
   Over k y = IsOver (vector_bytes config.vl) area k x y
 
-  steps_on : (steps : List Step) (k : ℕ) (p q : Place) → Over k p.state.core → AreSteps config thread area steps p q
-      → k + own_instructions steps ≤ n → Over (k + own_instructions steps) q.state.core
-  steps_on [] k p q o h le =
-      let same : k ≡ k + 0 = omega arith in
-      subst (λ i. Over i q.state.core) same (subst (λ (r : Place). Over k r.state.core) (sym h) o)
-  steps_on (Polls ∷ steps) k p q o h le =
-      steps_on steps k h.0 q (subst (λ (c : ProcessorState). Over k c) (sym (poll_turn config thread p h.0 h.1)) o) h.2 le
-  steps_on (Handles ∷ steps) k p q o h le =
-      let run = h.1 in
-      let kept = brings config thread area p.state h.0.state p.used h.0.used p.left h.0.left run.plain run.run in
-      steps_on steps k h.0 q
-      (over_and_same (vector_bytes config.vl) area k x p.state.core h.0.state.core o (same_but area p.state h.0.state kept)) h.2 le
-  steps_on (Executes ∷ steps) k p q o h le =
-      let it = goes k p.state.core (omega (arith, le)) o in
-      let here : h.0.state.core ≡ it.0 = own_turn config thread p h.0 it.0 h.1 it.1 in
-      let more : Over (suc k) h.0.state.core =
-      subst (λ (c : ProcessorState). Over (suc k) c) (sym here) (one_over (vector_bytes config.vl) area k x p.state.core it.0 o it.1) in
-      let count : suc k + own_instructions steps ≡ k + suc (own_instructions steps) = omega arith in
-      subst (λ i. Over i q.state.core) count (steps_on steps (suc k) h.0 q more h.2 (omega (arith, le)))
+  module _ (from to : Place) (plain : ArePlainBetween config thread from to) where
+    steps_on : (steps : List Step) (k : ℕ) (p : Place) → IsLater config thread from p → Over k p.state.core
+        → AreSteps config thread area steps p to → k + own_instructions steps ≤ n → Over (k + own_instructions steps) to.state.core
+    steps_on [] k p later o h le =
+        let same : k ≡ k + 0 = omega arith in
+        subst (λ i. Over i to.state.core) same (subst (λ (r : Place). Over k r.state.core) (sym h) o)
+    steps_on (Polls ∷ steps) k p later o h le =
+        steps_on steps k h.0 (later_later config thread from p h.0 later (step_later config thread area Polls p h.0 h.1))
+        (subst (λ (c : ProcessorState). Over k c) (sym (poll_turn config thread p h.0 h.1)) o) h.2 le
+    steps_on (Handles ∷ steps) k p later o h le =
+        let run = h.1 in
+        let here = plain p later (steps_later config thread area (Handles ∷ steps) p to h) run.due in
+        let kept = brings config thread area p.state h.0.state p.used h.0.used p.left h.0.left here run in
+        steps_on steps k h.0 (later_later config thread from p h.0 later (step_later config thread area Handles p h.0 run))
+        (over_and_same (vector_bytes config.vl) area k x p.state.core h.0.state.core o (same_but area p.state h.0.state kept)) h.2 le
+    steps_on (Executes ∷ steps) k p later o h le =
+        let it = goes k p.state.core (omega (arith, le)) o in
+        let here : h.0.state.core ≡ it.0 = own_turn config thread p h.0 it.0 h.1 it.1 in
+        let more : Over (suc k) h.0.state.core =
+        subst (λ (c : ProcessorState). Over (suc k) c) (sym here) (one_over (vector_bytes config.vl) area k x p.state.core it.0 o it.1) in
+        let count : suc k + own_instructions steps ≡ k + suc (own_instructions steps) = omega arith in
+        subst (λ i. Over i to.state.core) count
+        (steps_on steps (suc k) h.0 (later_later config thread from p h.0 later (step_later config thread area Executes p h.0 h.1)) more
+        h.2 (omega (arith, le)))
 
-  -- so many instructions of its own, from the first on
-  pub steps_over : (steps : List Step) (p q : Place) → p.state.core ≡ x → AreSteps config thread area steps p q
-      → own_instructions steps ≤ n → Over (own_instructions steps) q.state.core
-  steps_over steps p q first h le =
-      let count : 0 + own_instructions steps ≡ own_instructions steps = omega arith in
-      subst (λ i. Over i q.state.core) count
-      (steps_on steps 0 p q (subst (λ (c : ProcessorState). Over 0 c) (sym first) (same_itself area x)) h (omega (arith, le)))
+    -- so many instructions of its own, from the first on
+    pub steps_over : (steps : List Step) → from.state.core ≡ x → AreSteps config thread area steps from to
+        → own_instructions steps ≤ n → Over (own_instructions steps) to.state.core
+    steps_over steps first h le =
+        let count : 0 + own_instructions steps ≡ own_instructions steps = omega arith in
+        subst (λ i. Over i to.state.core) count
+        (steps_on steps 0 from (later_self config thread from) (subst (λ (c : ProcessorState). Over 0 c) (sym first) (same_itself area x)) h
+        (omega (arith, le)))

@@ -31,10 +31,9 @@ pub record IsOwnTurn (config : Config) (thread : ℕ) (p q : Place) : Type 0 whe
   pub undue : is_delivery_due config p.state ≡ false
   pub turn : IsTurn config thread p q
 
--- a handler runs over the area, and others in it; registers are of their types, as those of each thread are
-pub record IsHandling (config : Config) (thread : ℕ) (area : ℕ → Bool) (p q : Place) : Type 0 where
-  pub plain : IsPlain config p.state
-  pub run : HandlerRun config thread area p.state p.used p.left q.state q.used q.left
+-- a handler runs over the area, and others in it
+abbrev pub IsHandling : Config → ℕ → (ℕ → Bool) → Place → Place → Type 0
+IsHandling config thread area p q = HandlerRun config thread area p.state p.used p.left q.state q.used q.left
 
 -- what may come next
 pub data Step : Type 0 where
@@ -59,3 +58,14 @@ own_instructions [] = 0
 own_instructions (Polls ∷ steps) = own_instructions steps
 own_instructions (Handles ∷ steps) = own_instructions steps
 own_instructions (Executes ∷ steps) = suc (own_instructions steps)
+
+-- some turns lead from a place to another
+abbrev pub IsLater : Config → ℕ → Place → Place → Type 0
+IsLater config thread p q =
+    (turns : ℕ) × (reach_from config thread p.state p.used p.left turns ≡ At q.state q.used q.left)
+
+-- between two places each delivery is due in a plain state
+abbrev pub ArePlainBetween : Config → ℕ → Place → Place → Type 0
+ArePlainBetween config thread from to =
+    (p : Place) → IsLater config thread from p → IsLater config thread p to
+    → is_delivery_due config p.state ≡ true → IsPlain config p.state
