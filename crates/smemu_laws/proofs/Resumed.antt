@@ -25,7 +25,7 @@ use Rattle.line_reader.specs.Difference.{Difference, first_difference}
 use Rattle.line_reader.specs.Lines.{lines_of}
 use Rattle.command_lines.specs.ReportLines.{difference_lines}
 use Rattle.smemu.specs.Checkpoints.{IsCheckpointOf}
-use Rattle.smemu.specs.DifferLines.{parting_line}
+use Rattle.report_compare.specs.DifferLines.{parting_line}
 use Rattle.smemu.specs.Replay.{text_in, text_of, DiffersSo, EndsAsSaid, IsBlockIn, IsReplayOf}
 use Rattle.smemu.specs.Resume.{rest_of, rest_text, IsRestIn, IsResumeOf, RestDiffers, RestEnds}
 use Rattle.smemu_laws.proofs.GoesOn.{below_budget, budget_kept}
