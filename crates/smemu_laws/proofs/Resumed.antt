@@ -7,10 +7,12 @@ use Rattle.byteorder.specs.Endian.{little_bytes, little_number}
 use Rattle.sm_types.specs.Options.{version_of}
 use Rattle.sm_types.specs.declared.config.Config.{Config}
 use Rattle.sm_types.specs.declared.numbers.Numbers.{Numbers}
+use Rattle.sm_types.specs.declared.stop.Stop.{Stop}
 use Rattle.kernel_contexts.specs.State.{State}
 use Rattle.paged_memory.specs.Image.{Program}
+use Rattle.lone_runner.specs.LoneRun.{IsLoneRun}
 use Rattle.lone_runner.specs.Parting.{IsParting}
-use Rattle.lone_runner.specs.Rest.{EndsFrom, IsPartingFrom}
+use Rattle.lone_runner.specs.Rest.{EndsFrom, IsPartingFrom, IsRestOfRun}
 use Rattle.lone_runner.specs.declared.fault.AloneFault.{AloneFault}
 use Rattle.run_laws.specs.Rests.{ComesToTheRun}
 use Rattle.lone_runner.proofs.Partings.{compared}
@@ -261,3 +263,33 @@ module _ (file report : List ℕ) (thread count : ℕ) (bytes text : List ℕ) (
         resume_differs file report thread count bytes c reads text,
         replay_differs file report thread count bytes c reads text,
       )
+
+-- ---- what the report reads is that of a place of the run, of which the rest comes to what the run comes to
+
+module _ (file report : List ℕ) (thread count : ℕ) (bytes : List ℕ) (c : IsCheckpointOf file report thread count bytes)
+    (r : IsRestIn file report bytes)
+  where
+    reads_back : ReadsCheckpoint bytes c.at.said c.state thread c.used
+    reads_back = c.read_back (budget_left file report thread count bytes c r)
+
+    same_told : told (rest file report thread count bytes c reads_back) ≡ told r
+    same_told = one_told file report bytes (rest file report thread count bytes c reads_back) r
+
+    whole_run : ComesToTheRun c.at.program c.at.config thread c.at.block.journal c.state c.used c.at.block.count
+    whole_run = run file report thread count bytes c reads_back
+
+    pub same_ends : (state : State) (stop : Stop)
+        → IsRestOfRun r.at.config r.thread r.from r.used (rest_of r) state stop
+        ↔ IsLoneRun c.at.program c.at.config thread c.at.block.journal state stop
+    same_ends state stop =
+        subst
+        (λ (t : Told). IsRestOfRun t.config t.thread t.from t.used (drop t.used t.block.journal) state stop
+        ↔ IsLoneRun c.at.program c.at.config thread c.at.block.journal state stop) same_told (whole_run.same state stop)
+
+    pub same_partings : (fault : AloneFault)
+        → IsPartingFrom r.at.config r.thread r.from r.used (rest_of r) r.at.block.count fault
+        ↔ IsParting c.at.program c.at.config thread c.at.block.journal c.at.block.count fault
+    same_partings fault =
+        subst
+        (λ (t : Told). IsPartingFrom t.config t.thread t.from t.used (drop t.used t.block.journal) t.block.count fault
+        ↔ IsParting c.at.program c.at.config thread c.at.block.journal c.at.block.count fault) same_told (whole_run.parts fault)

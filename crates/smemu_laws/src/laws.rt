@@ -1,13 +1,17 @@
 //! The laws of answers: but in a run on several cores, and where memory is wanting, nothing in them is left
 //! to choose, and each text begins as the text of help says.
 ghost use Rattle.std.specs.Prelude.{◌≡◌, ◌≢◌, ◌≤◌, ◌<◌, ◌↔◌, ℕ, List, Option, Some, None, length};
+ghost use Rattle.sm_types.specs.declared.stop.Stop.{Stop};
 ghost use Rattle.cmd_words.specs.Words.{Request, command_of};
 ghost use Rattle.cmd_words.specs.declared.verb.Verb.TheVariants as verbs;
 ghost use Rattle.ckpt_fields.specs.Rows.{checkpoint_fault};
 ghost use Rattle.command_lines.specs.Texts.{HasFront, status_words};
 ghost use Rattle.command_lines.specs.declared.status.Status.{Status};
 ghost use Rattle.edge_io.specs.Files.{FilesView, Told};
-ghost use Rattle.lone_runner.specs.Rest.{IsPartingFrom};
+ghost use Rattle.kernel_contexts.specs.State.{State};
+ghost use Rattle.lone_runner.specs.LoneRun.{IsLoneRun};
+ghost use Rattle.lone_runner.specs.Parting.{IsParting};
+ghost use Rattle.lone_runner.specs.Rest.{IsPartingFrom, IsRestOfRun};
 ghost use Rattle.lone_runner.specs.declared.fault.AloneFault.{AloneFault};
 ghost use Rattle.smemu.specs.Answers.{IsOutcome};
 ghost use Rattle.smemu.specs.Checkpoints.{IsCheckpointOf};
@@ -80,8 +84,11 @@ pub fn each_name_is_a_file()
 {}
 
 /// From a checkpoint that was written of a thread of a report, the rest of the thread's run is told as its
-/// replay is: both come to the same block, if to any; and where the report reads the checkpoint, which it does
-/// where the budget was not used up there, to the same difference.
+/// replay is: both come to the same block, if to any; and where the report reads the checkpoint, which it
+/// does where the budget was not used up there, to the same difference. And the runs are the same, not their
+/// texts alone, in which memory is a digest: from what the report reads, the rest ends in just those states
+/// and with just those stops in which the thread's run does, and parts from the events and the count in just
+/// those ways.
 pub fn resumes_as_replays()
     ensures read { (file report checkpoint : List ℕ) (thread count : ℕ)
         (c : IsCheckpointOf file report thread count checkpoint) → count < c.at.config.budget
@@ -92,6 +99,14 @@ pub fn resumes_as_replays()
     ensures differs { (file report checkpoint text : List ℕ) (thread count : ℕ)
         → IsCheckpointOf file report thread count checkpoint → IsRestIn file report checkpoint
         → RestDiffers file report checkpoint text ↔ DiffersSo file report thread text }
+    ensures ends { (file report checkpoint : List ℕ) (thread count : ℕ) (state : State) (stop : Stop)
+        (c : IsCheckpointOf file report thread count checkpoint) (r : IsRestIn file report checkpoint)
+        → IsRestOfRun r.at.config r.thread r.from r.used (rest_of r) state stop
+        ↔ IsLoneRun c.at.program c.at.config thread c.at.block.journal state stop }
+    ensures parts { (file report checkpoint : List ℕ) (thread count : ℕ) (fault : AloneFault)
+        (c : IsCheckpointOf file report thread count checkpoint) (r : IsRestIn file report checkpoint)
+        → IsPartingFrom r.at.config r.thread r.from r.used (rest_of r) r.at.block.count fault
+        ↔ IsParting c.at.program c.at.config thread c.at.block.journal c.at.block.count fault }
 {}
 
 /// What is left of a thread's run, from a checkpoint that a report reads, ends at the count of the report's
