@@ -154,7 +154,8 @@ module _ (program : Program) (config : Config) (thread : ℕ) (journal : List Ev
       (told : Option Abi) → next_place old before ≡ place_of new after stop
       → IfSome call (λ past. IsNextCall (state_of old) past) → IfNone call (IsNoCall (state_of old))
       → first ≡ (state_of old).count → now ≡ (state_of new).count → past ≡ cond (nat_lt first now) call None
-      → config_of new ≡ config_of old → IsPlain (config_of old) (state_of old) → IsWholeWith (vector_bytes (config_of new).svl) (state_of new).core
+      → config_of new ≡ config_of old → IsPlain (config_of old) (state_of old)
+      → IsWholeWith (vector_bytes (config_of new).svl) (state_of new).core
       → ((run : ℕ → State) (n : ℕ) → IsUnderWay run n watch found → run (suc n) ≡ state_of new
       → IsPast (run n) (run (suc n)) past → (run n).count ≤ (run (suc n)).count → IsWholeAt run (suc n)
       → KeepsCode (run n).core.memory (run (suc n)).core.memory → IsUnderWay run (suc n) later told)

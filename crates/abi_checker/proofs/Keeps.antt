@@ -31,11 +31,13 @@ use Rattle.kernel_contexts.specs.State.{State, masking_of}
 use Rattle.kernel_contexts.specs.HandlerRun.{IsPlain}
 use Rattle.kernel_contexts.specs.KernelCall.{call_numbered}
 use Rattle.kernel_contexts.specs.Call.{TurnEnd, Goes, Yields, Asks, Ends, asking, journal_limit, output_limit, written, write_of, exit_of}
-use Rattle.kernel_contexts.specs.Call.{set_handler_of, set_mask_of, post_of, post_op, may_post, return_of, return_unless, returned, called, call_of}
+use Rattle.kernel_contexts.specs.Call.{set_handler_of, set_mask_of, post_of, post_op, may_post, return_of, return_unless, returned}
+use Rattle.kernel_contexts.specs.Call.{called, call_of}
 use Rattle.kernel_contexts.specs.Handlers.{is_signal}
 use Rattle.kernel_contexts.specs.declared.kernel_call.KernelCall.{KernelCall}
 use Rattle.kernel_contexts.specs.declared.kernel_call.KernelCall.TheVariants as call
-use Rattle.kernel_contexts.specs.Turn.{turn_of, after_effect, outside_streaming, is_poll_due, poll_of, poll_op, polled_with, is_delivery_due}
+use Rattle.kernel_contexts.specs.Turn.{turn_of, after_effect, outside_streaming, is_poll_due, poll_of, poll_op, polled_with}
+use Rattle.kernel_contexts.specs.Turn.{is_delivery_due}
 use Rattle.kernel_contexts.specs.Turn.{delivery_of, delivered_to, handled, released, lowest_signal}
 use Rattle.kernel_contexts.specs.Turn as turn
 use Rattle.kernel_contexts.specs.Run.{Reached, At, answered_by, after_turn, turned, reach}

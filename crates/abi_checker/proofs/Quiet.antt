@@ -188,7 +188,8 @@ module _ (config : Config) (thread events : ℕ) (run : ℕ → State) (here n :
       subst (λ i. IsWatched run i watch) (sym more)
       (went_uncalled run (here + j) watch (run (here + suc j)) w (ap run (sym more))
       (subst (λ i. (run (here + j)).count ≤ (run i).count) more (omega (arith, grows)))
-      (blocks_stay watch.near (run (here + j)).core.memory (run (here + suc j)).core.memory watch.blocks.known (code_each j here_less) w.known)
+      (blocks_stay watch.near (run (here + j)).core.memory (run (here + suc j)).core.memory watch.blocks.known (code_each j here_less)
+      w.known)
       watch
       (none_settles (run (here + suc j)) watch w.near away)
       (λ call p r. absurd (none_back run (here + j) watch w

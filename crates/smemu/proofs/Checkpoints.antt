@@ -101,7 +101,8 @@ checkpoint_accepted program report thread count file bytes (Err r) h = absurd h
 same_block : (a b : Block) → ◌≡◌ {A = Option Block} (Some a) (Some b) → a ≡ b
 same_block a b e = cc
 
-pub index_said : (f : Block → ℕ) (blocks : List Block) (k : ℕ) (b : Block) → slice_get blocks k ≡ Some b → slice_index (map f blocks) k ≡ f b
+pub index_said : (f : Block → ℕ) (blocks : List Block) (k : ℕ) (b : Block) → slice_get blocks k ≡ Some b
+    → slice_index (map f blocks) k ≡ f b
 index_said f [] k b e = cc
 index_said f (x ∷ xs) zero b e = ap f (same_block x b e)
 index_said f (x ∷ xs) (suc k) b e = index_said f xs k b e

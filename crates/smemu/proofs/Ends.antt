@@ -122,7 +122,8 @@ usage_stands words place kind e = record { fault = record { place = place; kind 
 
 -- for what the words ask for
 pub fetches_asked : {F : Type 0} (fetched : F → List ℕ → ℕ → F → Type 0) (told : Told) (unread : Type 0) (old new : F) (status : Status)
-    (o : Option Request) (request : Request) → o ≡ Some request → FetchesReached fetched told unread (reached_of told request) old new status
+    (o : Option Request) (request : Request) → o ≡ Some request
+    → FetchesReached fetched told unread (reached_of told request) old new status
     → FetchesReached fetched told unread (reached_asked told o) old new status
 fetches_asked fetched told unread old new status o request e h =
     subst (λ (names : List Named). FetchesReached fetched told unread names old new status) (sym (ap (reached_asked told) e)) h
@@ -381,7 +382,8 @@ module _ (c : Call) (end : Result Answer Refusal) (s : Status) (ends : EndsWords
   status_complete (inr w) = λ files tells. inr (subst (MayCome files c.words) (sym w.0) tt)
 
 -- what was fetched
-pub status_fetched : {F : Type 0} (fetched : F → List ℕ → ℕ → F → Type 0) (told : Told) (unread : Type 0) (reached : List Named) (old new : F)
+pub status_fetched : {F : Type 0} (fetched : F → List ℕ → ℕ → F → Type 0) (told : Told) (unread : Type 0) (reached : List Named)
+    (old new : F)
     (end : Result Answer Refusal) (before after : SinkView) (s : Status) → WritesStatus end before after s
     → FetchesReached fetched told unread reached old new (end_status end) → FetchesReached fetched told unread reached old new s
 status_fetched fetched told unread reached old new end before after s (inl w) h =

@@ -1,5 +1,6 @@
 -- The rest of the run of a thread of a report, from a checkpoint, from what its parts say.
-use Rattle.std.proofs.Common.{◌≡◌, inl, inr, ℕ, ◌-◌, ◌<◌, Bool, true, false, cond, List, [], ◌∷◌, drop, get_or, length, take, refl, sym, ◌∙◌, ap, subst, arith, Option, Some, None}
+use Rattle.std.proofs.Common.{◌≡◌, inl, inr, ℕ, ◌-◌, ◌<◌, Bool, true, false, cond, List, [], ◌∷◌, drop, get_or, length, take, refl, sym}
+use Rattle.std.proofs.Common.{◌∙◌, ap, subst, arith, Option, Some, None}
 use Rattle.std.proofs.Common.{Result, Ok, Err}
 use Rattle.std.specs.Prelude.{nat_lt, IsErrAnd}
 use Rattle.std.specs.Str.{bytes_eq}
@@ -46,7 +47,8 @@ use Rattle.smemu.proofs.Debugs.{block_there}
 same_fault : (f g : Fault) → ◌≡◌ {A = Option Fault} (Some f) (Some g) → f ≡ g
 same_fault f g e = cc
 
-not_image : (same lower : Bool) (image thread fault : Fault) → lower ≡ true → cond same (cond lower None (Some thread)) (Some image) ≡ Some fault
+not_image : (same lower : Bool) (image thread fault : Fault) → lower ≡ true
+    → cond same (cond lower None (Some thread)) (Some image) ≡ Some fault
     → (same ≡ false) × (image ≡ fault)
 not_image true true image thread fault is e = cc
 not_image true false image thread fault is e = cc
@@ -81,7 +83,8 @@ rest_left events journal n used same is =
     whole ∙ (λ i. drop (is i) (same i))
 
 module _ (file bytes checkpoint : List ℕ) (program : Program) (it : parts.Report) (block : ReportBlock) (loose : Loose)
-    (h : IsStateFor (report_said it) it.config checkpoint loose) (loads : Loads file program) (reads : report_in bytes ≡ Ok (report_said it))
+    (h : IsStateFor (report_said it) it.config checkpoint loose) (loads : Loads file program)
+    (reads : report_in bytes ≡ Ok (report_said it))
     (matches : mismatch (sha256 file) (loose_thread loose) (report_said it) ≡ None) (one_core : it.config.cores ≡ 1)
     (is : block ≡ get_or it.blocks.items (loose_thread loose) block)
   where
@@ -109,7 +112,8 @@ module _ (file bytes checkpoint : List ℕ) (program : Program) (it : parts.Repo
     rest_parted r k = absurd k
 
     -- it comes to the count with all of it used
-    module _ (end : Loose) (stop : Stop) (run : IsResumed loose (rest_in at.block loose) at.block.count end stop) (same : IsSameLoose loose end)
+    module _ (end : Loose) (stop : Stop) (run : IsResumed loose (rest_in at.block loose) at.block.count end stop)
+        (same : IsSameLoose loose end)
       where
         abbrev ended : RestEnds rest
         ended = record {

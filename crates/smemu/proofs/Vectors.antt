@@ -17,7 +17,8 @@ use Rattle.smemu.specs.Views.{IsOpened, IsUnopened}
 use Rattle.smemu.specs.declared.refusal.Refusal.{Refusal}
 
 -- lines are written one after another, each with its line feed
-pub lines_with_feeds : {Z : Type 0} (lines : List (Vec ℕ Z)) → flat_map with_line_feed lines ≡ lines_text (map (λ (line : Vec ℕ Z). line.items) lines)
+pub lines_with_feeds : {Z : Type 0} (lines : List (Vec ℕ Z))
+    → flat_map with_line_feed lines ≡ lines_text (map (λ (line : Vec ℕ Z). line.items) lines)
 unfolding lines_text
 lines_with_feeds [] = refl
 lines_with_feeds (line ∷ lines) = ap (λ (rest : List ℕ). with_line_feed line ++ rest) (lines_with_feeds lines)
@@ -53,5 +54,6 @@ module _ (config : Config) where
   vectors_answered file vectors lines read are = record {
     vectors = vectors;
     read = (λ i. vectors_in (sym (said_length config.vl) i) (sym (said_length config.svl) i) file) ∙ read;
-    is_text = lines_with_feeds lines ∙ ap lines_text are ∙ (λ i. lines_text (answers (said_length config.vl i) (said_length config.svl i) vectors));
+    is_text = lines_with_feeds lines ∙ ap lines_text are
+        ∙ (λ i. lines_text (answers (said_length config.vl i) (said_length config.svl i) vectors));
   }

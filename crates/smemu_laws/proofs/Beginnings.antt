@@ -23,7 +23,8 @@ use Rattle.command_lines.specs.ReportLines.{report_line, part_word, difference_l
 use Rattle.command_lines.specs.SourceLines.{source_line, source_words, line_number}
 use Rattle.command_lines.specs.Texts.{HasFront, kind_word, status_words, usage_line}
 use Rattle.command_lines.specs.declared.status.Status.{Status}
-use Rattle.command_lines.specs.declared.status.Status.TheVariants.{Done, Usage, Absent, ReadFault, WriteFault, OutOfMemory, BadReport, Differs}
+use Rattle.command_lines.specs.declared.status.Status.TheVariants.{Done, Usage, Absent, ReadFault, WriteFault, OutOfMemory, BadReport}
+use Rattle.command_lines.specs.declared.status.Status.TheVariants.{Differs}
 use Rattle.command_lines.specs.declared.status.Status.TheVariants.{BadPlan, BadCheckpoint, Unlawful, BadVectors}
 use Rattle.smemu.specs.Answers.{IsToldBy, outcomes_of}
 use Rattle.smemu.specs.Checks as checks

@@ -1,5 +1,6 @@
 -- What is left of a run from a checkpoint that a report reads either parts from the block, or ends as it says.
-use Rattle.std.proofs.Common.{◌≡◌, ℕ, ◌+◌, ◌*◌, ◌/◌, ◌^◌, ◌<◌, ◌≤◌, ◌&&◌, ◌++◌, Bool, true, false, cond, List, [], ◌∷◌, length, map, None, Some, refl, ap, sym, ◌∙◌}
+use Rattle.std.proofs.Common.{◌≡◌, ℕ, ◌+◌, ◌*◌, ◌/◌, ◌^◌, ◌<◌, ◌≤◌, ◌&&◌, ◌++◌, Bool, true, false, cond, List, [], ◌∷◌, length, map}
+use Rattle.std.proofs.Common.{None, Some, refl, ap, sym, ◌∙◌}
 use Rattle.std.proofs.Common.{subst, arith, length-append}
 use Rattle.std.specs.Prelude.{◌==◌, nat_le, nat_lt, slice_index, if◌then◌else◌}
 use Rattle.std.specs.FinMap.{entries, find, get, get-entries}
@@ -22,13 +23,16 @@ use Rattle.lone_runner.proofs.Partings.{rest_ends_unless}
 use Rattle.report_reader.specs.Report.{Report}
 use Rattle.field_table.specs.Rows.{number, said}
 use Rattle.field_table.specs.Table.{IsFilled}
-use Rattle.ckpt_fields.specs.Rows.{array_size, checkpoint_table, counts, from_handlers, from_output, from_registers, from_system, from_thread}
+use Rattle.ckpt_fields.specs.Rows.{array_size, checkpoint_table, counts, from_handlers, from_output, from_registers, from_system}
+use Rattle.ckpt_fields.specs.Rows.{from_thread}
 use Rattle.ckpt_fields.specs.Rows.{first_rows, from_vectors, is_count, is_signal_past, options_rows}
 use Rattle.ckpt_fields.specs.Values.{first_values, handler_values, option_values, output_values, page_values, system_values}
-use Rattle.ckpt_file.specs.Checkpoint.{array_values, checkpoint_values, pages_in, register_values, state_values, vector_values, ReadsCheckpoint}
+use Rattle.ckpt_file.specs.Checkpoint.{array_values, checkpoint_values, pages_in, register_values, state_values, vector_values}
+use Rattle.ckpt_file.specs.Checkpoint.{ReadsCheckpoint}
 use Rattle.ckpt_file.proofs.Filling.{each_of_all, fields_good}
 use Rattle.ckpt_file.proofs.Modes.{and_second}
-use Rattle.ckpt_file.proofs.Parts.{first_good, handlers_good, system_good, thread_good, vectors_good, AreHandlersPast, IsNarrowEntry, IsProgress}
+use Rattle.ckpt_file.proofs.Parts.{first_good, handlers_good, system_good, thread_good, vectors_good, AreHandlersPast, IsNarrowEntry}
+use Rattle.ckpt_file.proofs.Parts.{IsProgress}
 use Rattle.smemu.specs.Resume.{rest_of, IsRestIn, RestEnds}
 
 -- ---- handlers of signals alone

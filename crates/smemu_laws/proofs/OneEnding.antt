@@ -230,35 +230,48 @@ one_outcome Debug Differs BadReport (program ∷ report ∷ ThreadSaid thread �
     absurd (matched file bytes thread h.at g.fault g.is_mismatched)
 one_outcome Ckpt Done Done (program ∷ report ∷ ThreadSaid thread ∷ CountSaid count ∷ []) options (file ∷ bytes ∷ []) text other m n h g =
     (refl, one_checkpoint file bytes thread count text other h g)
-one_outcome Ckpt BadCheckpoint BadCheckpoint (program ∷ report ∷ ThreadSaid thread ∷ CountSaid count ∷ []) options (file ∷ bytes ∷ []) text other m n h g =
+one_outcome Ckpt BadCheckpoint BadCheckpoint (program ∷ report ∷ ThreadSaid thread ∷ CountSaid count ∷ []) options (file ∷ bytes ∷ []) text
+    other m n h g =
     (refl, one_late file bytes thread count text other h g)
-one_outcome Ckpt BadReport BadReport (program ∷ report ∷ ThreadSaid thread ∷ CountSaid count ∷ []) options (file ∷ bytes ∷ []) text other m n h g =
+one_outcome Ckpt BadReport BadReport (program ∷ report ∷ ThreadSaid thread ∷ CountSaid count ∷ []) options (file ∷ bytes ∷ []) text other m
+    n h g =
     (refl, one_mismatch file bytes thread text other h g)
-one_outcome Ckpt Differs Differs (program ∷ report ∷ ThreadSaid thread ∷ CountSaid count ∷ []) options (file ∷ bytes ∷ []) text other m n h g =
+one_outcome Ckpt Differs Differs (program ∷ report ∷ ThreadSaid thread ∷ CountSaid count ∷ []) options (file ∷ bytes ∷ []) text other m n h
+    g =
     (refl, one_short file bytes thread count text other h g)
-one_outcome Ckpt Done BadCheckpoint (program ∷ report ∷ ThreadSaid thread ∷ CountSaid count ∷ []) options (file ∷ bytes ∷ []) text other m n h g =
+one_outcome Ckpt Done BadCheckpoint (program ∷ report ∷ ThreadSaid thread ∷ CountSaid count ∷ []) options (file ∷ bytes ∷ []) text other m n
+    h g =
     absurd (stands_or_late file bytes thread count text other h g)
-one_outcome Ckpt BadCheckpoint Done (program ∷ report ∷ ThreadSaid thread ∷ CountSaid count ∷ []) options (file ∷ bytes ∷ []) text other m n h g =
+one_outcome Ckpt BadCheckpoint Done (program ∷ report ∷ ThreadSaid thread ∷ CountSaid count ∷ []) options (file ∷ bytes ∷ []) text other m n
+    h g =
     absurd (stands_or_late file bytes thread count other text g h)
-one_outcome Ckpt Done BadReport (program ∷ report ∷ ThreadSaid thread ∷ CountSaid count ∷ []) options (file ∷ bytes ∷ []) text other m n h g =
+one_outcome Ckpt Done BadReport (program ∷ report ∷ ThreadSaid thread ∷ CountSaid count ∷ []) options (file ∷ bytes ∷ []) text other m n h g
+    =
     absurd (matched file bytes thread h.at g.fault g.is_mismatched)
-one_outcome Ckpt BadReport Done (program ∷ report ∷ ThreadSaid thread ∷ CountSaid count ∷ []) options (file ∷ bytes ∷ []) text other m n h g =
+one_outcome Ckpt BadReport Done (program ∷ report ∷ ThreadSaid thread ∷ CountSaid count ∷ []) options (file ∷ bytes ∷ []) text other m n h g
+    =
     absurd (matched file bytes thread g.at h.fault h.is_mismatched)
 one_outcome Ckpt Done Differs (program ∷ report ∷ ThreadSaid thread ∷ CountSaid count ∷ []) options (file ∷ bytes ∷ []) text other m n h g =
     absurd (stands_or_short file bytes thread count text other h g)
 one_outcome Ckpt Differs Done (program ∷ report ∷ ThreadSaid thread ∷ CountSaid count ∷ []) options (file ∷ bytes ∷ []) text other m n h g =
     absurd (stands_or_short file bytes thread count other text g h)
-one_outcome Ckpt BadCheckpoint BadReport (program ∷ report ∷ ThreadSaid thread ∷ CountSaid count ∷ []) options (file ∷ bytes ∷ []) text other m n h g =
+one_outcome Ckpt BadCheckpoint BadReport (program ∷ report ∷ ThreadSaid thread ∷ CountSaid count ∷ []) options (file ∷ bytes ∷ []) text
+    other m n h g =
     absurd (matched file bytes thread h.at g.fault g.is_mismatched)
-one_outcome Ckpt BadReport BadCheckpoint (program ∷ report ∷ ThreadSaid thread ∷ CountSaid count ∷ []) options (file ∷ bytes ∷ []) text other m n h g =
+one_outcome Ckpt BadReport BadCheckpoint (program ∷ report ∷ ThreadSaid thread ∷ CountSaid count ∷ []) options (file ∷ bytes ∷ []) text
+    other m n h g =
     absurd (matched file bytes thread g.at h.fault h.is_mismatched)
-one_outcome Ckpt BadCheckpoint Differs (program ∷ report ∷ ThreadSaid thread ∷ CountSaid count ∷ []) options (file ∷ bytes ∷ []) text other m n h g =
+one_outcome Ckpt BadCheckpoint Differs (program ∷ report ∷ ThreadSaid thread ∷ CountSaid count ∷ []) options (file ∷ bytes ∷ []) text other
+    m n h g =
     absurd (short_or_late file bytes thread count other text g h)
-one_outcome Ckpt Differs BadCheckpoint (program ∷ report ∷ ThreadSaid thread ∷ CountSaid count ∷ []) options (file ∷ bytes ∷ []) text other m n h g =
+one_outcome Ckpt Differs BadCheckpoint (program ∷ report ∷ ThreadSaid thread ∷ CountSaid count ∷ []) options (file ∷ bytes ∷ []) text other
+    m n h g =
     absurd (short_or_late file bytes thread count text other h g)
-one_outcome Ckpt BadReport Differs (program ∷ report ∷ ThreadSaid thread ∷ CountSaid count ∷ []) options (file ∷ bytes ∷ []) text other m n h g =
+one_outcome Ckpt BadReport Differs (program ∷ report ∷ ThreadSaid thread ∷ CountSaid count ∷ []) options (file ∷ bytes ∷ []) text other m n
+    h g =
     absurd (matched file bytes thread g.at h.fault h.is_mismatched)
-one_outcome Ckpt Differs BadReport (program ∷ report ∷ ThreadSaid thread ∷ CountSaid count ∷ []) options (file ∷ bytes ∷ []) text other m n h g =
+one_outcome Ckpt Differs BadReport (program ∷ report ∷ ThreadSaid thread ∷ CountSaid count ∷ []) options (file ∷ bytes ∷ []) text other m n
+    h g =
     absurd (matched file bytes thread h.at g.fault g.is_mismatched)
 one_outcome Resume Done Done operands options (file ∷ bytes ∷ checkpoint ∷ []) text other m n h g =
     (refl, one_resume file bytes checkpoint text other h g)

@@ -12,7 +12,8 @@ use Rattle.smemu.proofs.checkpoint.checkpoint_report.Goals as goal
 
 pub returns-in_err-check_match : goal.returns-in_err-check_match
 returns-in_err-check_match c =
-    let ends : EndsCheckpoint c.args.file.now c.args.report.now.bytes.items c.args.thread c.args.count (Err c.in_err-check_match.field-0.0) =
+    let ends : EndsCheckpoint c.args.file.now c.args.report.now.bytes.items c.args.thread c.args.count (Err c.in_err-check_match.field-0.0)
+    =
     checkpoint_unmatched c.args.file.now c.args.report.now.bytes.items c.args.thread c.args.count c.args.image.now
     (report_said c.args.report.now.content) c.in_err-check_match.field-0.0 c.requires.loads c.requires.reads
     c.in_err-check_match.ensures.err in
@@ -52,7 +53,8 @@ returns c =
       stands = c.in_ok-context.ensures.stands;
       is_text =
           c.in_ok-bytes.ensures
-          ∙ (λ i. checkpoint c.args.report.now.content.image (numbers_of (c.in_ok-context.ensures.config i)) (state_of c.in_ok-context.context)
+          ∙ (λ i. checkpoint c.args.report.now.content.image (numbers_of (c.in_ok-context.ensures.config i))
+          (state_of c.in_ok-context.context)
           (c.in_ok-context.ensures.number i) (length (journal_of c.in_ok-context.context)));
       read_back =
           read_so (report_said c.args.report.now.content) c.in_ok-context.context c.args.thread c.args.count at.block

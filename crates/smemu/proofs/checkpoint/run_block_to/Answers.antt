@@ -12,6 +12,7 @@ returns-in-Err c =
       config = tt;
       shown = tt;
       before =
-          subst (λ (journal : List Event). IsPartingBefore c.args.image.now c.args.config.now c.args.thread journal c.args.count c.in-Err.fault)
+          subst (λ (journal : List Event).
+          IsPartingBefore c.args.image.now c.args.config.now c.args.thread journal c.args.count c.in-Err.fault)
           c.as_slice.ensures.value (c.in-Err.ensures.parts other);
     }

@@ -55,7 +55,8 @@ returns-in-Ok-clause-alone g c =
 pub returns-in-Ok-clause-several : goal.returns-in-Ok-clause-several
 returns-in-Ok-clause-several g c =
     λ request asks takes. none_ok _ c.answer_asked.result (c.answer_asked.ensures.several
-    (same_takes_some (command_of (map string_bytes c.args.words.now)) (request_of c.in-Ok.asked) request c.in-Ok.ensures.command asks takes))
+    (same_takes_some (command_of (map string_bytes c.args.words.now)) (request_of c.in-Ok.asked) request c.in-Ok.ensures.command asks
+    takes))
 
 pub returns-in-Err-Usage-clause-several : goal.returns-in-Err-Usage-clause-several
 returns-in-Err-Usage-clause-several g c =
@@ -86,4 +87,5 @@ pub returns-in-Err-Memory-clause-fetched : goal.returns-in-Err-Memory-clause-fet
 returns-in-Err-Memory-clause-fetched g c =
     fetches_unread g.F.Files.fetched (g.F.Files.view c.args.files.now).told
     (Rose (g.F.Files.view c.args.files.now).faults (g.F.Files.view c.args.files.now).faults)
-    (reached_asked (g.F.Files.view c.args.files.now).told (command_of (map string_bytes c.args.words.now))) c.args.files.now c.args.files.now refl
+    (reached_asked (g.F.Files.view c.args.files.now).told (command_of (map string_bytes c.args.words.now))) c.args.files.now
+    c.args.files.now refl

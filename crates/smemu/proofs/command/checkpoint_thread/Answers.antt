@@ -17,7 +17,8 @@ reported name = record { name = name; kind = ReportFile }
 
 pub returns-in_err-file : goal.returns-in_err-file
 returns-in_err-file g c =
-    let ends : CarriesOut g.F.Files.fetched g.F.Files.view (request_of (command.Ckpt c.args.program c.args.report c.args.thread c.args.count))
+    let ends : CarriesOut g.F.Files.fetched g.F.Files.view
+    (request_of (command.Ckpt c.args.program c.args.report c.args.thread c.args.count))
     c.args.files.now c.open_program.new.files (Err c.in_err-file.field-0.0) =
     refused_next _ _ _ [] (reported (string_bytes c.args.report) ∷ []) [] (named (string_bytes c.args.program)) _ _ _ refl
     (none_opened _ _ _ _) c.open_program.ensures.fetched c.open_program.ensures.kept _ c.in_err-file.ensures.unopened in
@@ -29,7 +30,8 @@ returns-in_err-read g c =
     let one = and_opened program (none_opened g.F.Files.fetched g.F.Files.view
     (request_of (command.Ckpt c.args.program c.args.report c.args.thread c.args.count)) c.args.files.now) c.open_program.ensures.fetched
     c.open_program.ensures.kept c.in_ok-file.ensures.opened in
-    let ends : CarriesOut g.F.Files.fetched g.F.Files.view (request_of (command.Ckpt c.args.program c.args.report c.args.thread c.args.count))
+    let ends : CarriesOut g.F.Files.fetched g.F.Files.view
+    (request_of (command.Ckpt c.args.program c.args.report c.args.thread c.args.count))
     c.args.files.now c.open_report.new.files (Err c.in_err-read.field-0.0) =
     refused_next _ _ _ (program ∷ []) [] _ (reported (string_bytes c.args.report)) _ _ _ refl one c.open_report.ensures.fetched
     c.open_report.ensures.kept _ c.in_err-read.ensures.unopened in

@@ -13,12 +13,14 @@ pub returns-in_err-content-clause-unopened : goal.returns-in_err-content-clause-
 returns-in_err-content-clause-unopened g c =
     let files = change g.F.Files.view c.args.files.now c.fetch_file.new.files in
     let why : IsUnopened files (string_bytes c.args.name) source_judge c.in_err-content.field-0.0 =
-    unopened_file source_judge 67108864 source_bounded files FETCH_LIMIT (string_bytes c.args.name) c.in_ok-bytes.bytes.items c.in_err-content.field-0.0 (lit< tt)
+    unopened_file source_judge 67108864 source_bounded files FETCH_LIMIT (string_bytes c.args.name) c.in_ok-bytes.bytes.items
+    c.in_err-content.field-0.0 (lit< tt)
     c.in_ok-bytes.ensures.front (rw c.as_slice.ensures.value at c.in_err-content.ensures.rejected) in
     search rules
 
 pub returns-clause-opened : goal.returns-clause-opened
 returns-clause-opened g c =
     let assembles = rw c.as_slice.ensures.value at c.in_ok-content.ensures.assembles in
-    opened_file source_judge 67108864 source_bounded (g.F.Files.view c.args.files.now).told FETCH_LIMIT (string_bytes c.args.name) c.in_ok-bytes.bytes.items (lit< tt)
+    opened_file source_judge 67108864 source_bounded (g.F.Files.view c.args.files.now).told FETCH_LIMIT (string_bytes c.args.name)
+    c.in_ok-bytes.bytes.items (lit< tt)
     c.in_ok-bytes.ensures.front (ap (option_map rejection.Source) assembles.accepted)

@@ -21,7 +21,8 @@ returns-in_err-read g c =
     let ends : CarriesOut g.F.Files.fetched g.F.Files.view request c.args.files.now new (Err c.in_err-read.field-0.0) =
     one_refused g.F.Files.fetched g.F.Files.view request (record { name = string_bytes c.args.name; kind = VectorsFile })
     c.args.files.now new refl c.open_vectors.ensures.fetched c.open_vectors.ensures.kept
-    c.in_err-read.field-0.0 (vectors_unopened c.args.config.now (change g.F.Files.view c.args.files.now new) (string_bytes c.args.name) c.in_err-read.field-0.0
+    c.in_err-read.field-0.0 (vectors_unopened c.args.config.now (change g.F.Files.view c.args.files.now new) (string_bytes c.args.name)
+    c.in_err-read.field-0.0
     c.in_err-read.ensures.unopened) in
     search rules
 
