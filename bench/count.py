@@ -9,8 +9,8 @@ PROGRAM is the emulator, by default the one that ./smemu --build makes, and wher
 budgets; the figure is the difference of what the processor needed, for one guest instruction of the difference. So polls are in it, and
 start and report are not. Other than a time it is the same whatever else the machine does; it says nothing of waiting for memory.
 
---check compares the figures with those of bench/counts.txt: more than a tenth above is a fault. Where valgrind is not installed nothing
-is compared. --store writes that file.
+--check compares the figures with those of bench/counts.txt: more than a tenth above is a fault, and so is an abi-check of more than 1.3
+times what the replay of the same loop needs. Where valgrind is not installed nothing is compared. --store writes that file.
 """
 import argparse
 import concurrent.futures
@@ -34,6 +34,8 @@ STORED = TOP / "bench" / "counts.txt"
 HEAD = "# The processor's instructions for one guest instruction of each loop. `bench/count.py --store` writes them.\n"
 # a figure may be so many times the stored one
 ROOM = 1.1
+# a check of marked calls may need so many times what a replay of the same loop needs
+CHECKED, REPLAYED, MOST = ", abi-check", ", replay", 1.3
 VALGRIND = ["valgrind", "--tool=callgrind", "--callgrind-out-file=/dev/null"]
 
 
@@ -45,6 +47,21 @@ class Loop(typing.NamedTuple):
     command: str = "run"
 
 
+# one call in each five instructions
+CALLS = """    .text
+_start:
+    movz x3, #30, lsl #16
+next:
+    bl one
+    subs x3, x3, #1
+    b.ne next
+    movz x8, #93
+    svc #0
+one:
+    add x5, x5, #1
+    ret
+"""
+
 # a thread polls at each multiple of a thousand instructions, so no budget is one
 LOOPS = {
     "subs, b.ne": Loop(elf(GROWN), (2_503, 12_503)),
@@ -54,6 +71,8 @@ LOOPS = {
     "8 smopa of bytes, subs, b.ne, 2048 bits": Loop(matrix_source(MATRIX_LOOPS["8 smopa of bytes"], 200), (500, 1_500), ("--svl", 2048)),
     "subs, b.ne, replay": Loop(elf(GROWN), (2_503, 12_503), command="replay"),
     "subs, b.ne, abi-check": Loop(elf(GROWN), (2_503, 12_503), command="abi-check"),
+    "bl, add, ret, subs, b.ne, replay": Loop(CALLS, (2_503, 12_503), command="replay"),
+    "bl, add, ret, subs, b.ne, abi-check": Loop(CALLS, (2_503, 12_503), command="abi-check"),
     "subs, b.ne, ckpt before the end": Loop(elf(GROWN), (2_503, 12_503), command="ckpt"),
     "subs, b.ne, debug up to its first answer": Loop(elf(GROWN), (2_503, 12_503), command="debug"),
 }
@@ -134,6 +153,10 @@ def check(program, _folder):
             faults.append(text)
         elif now[name] * ROOM < limits[name]:
             print(f"count: {text}; bench/count.py --store keeps that")
+    for name in filter(lambda it: it.endswith(CHECKED), now):
+        times = now[name] / now[name.removesuffix(CHECKED) + REPLAYED]
+        if times > MOST:
+            faults.append(f"{name}: {times:.2f} times what a replay needs, and {MOST} are allowed")
     for fault in faults:
         print(f"count: {fault}")
     print(f"count: {len(now)} loops, {len(faults)} at fault")
