@@ -26,6 +26,7 @@ use Rattle.abi_checker.specs.Planning.{IsPlanned, IsOfBlock, IsOfOne}
 use Rattle.abi_checker.specs.declared.abi.Abi.{Abi}
 use Rattle.abi_checker.specs.declared.blocks.Next.{Next}
 use Rattle.abi_checker.specs.declared.watch.Watch.{Watch}
+use Rattle.abi_checker.proofs.Deliveries.{plain_over}
 use Rattle.abi_checker.proofs.Followed.{now_state, past_counted}
 use Rattle.abi_checker.proofs.Keeps.{counted_keeps}
 use Rattle.abi_checker.proofs.WholeStates.{whole_at}
@@ -83,6 +84,7 @@ module _ (program : Program) (config : Config) (thread : ℕ) (journal : List Ev
   followed_over later told way = record {
     way = way_goes_on program config thread journal count old new ticket same is n goes quiet most h.way;
     goes = goes_each n (state_of new) by_own;
+    plain = plain_over config run thread (length (journal_of old)) here n counted h.plain;
     told = way;
   }
 

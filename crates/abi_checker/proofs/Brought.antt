@@ -1,16 +1,24 @@
 -- What is known of a marked call that returned in a run without a fault.
-use Rattle.std.proofs.Common.{◌≡◌, ℕ, List, length, Some, ap, subst, sym, ◌∙◌, arith}
+use Rattle.std.proofs.Common.{◌≡◌, inl, inr, ℕ, ◌+◌, ◌<◌, List, [], length, Some, refl, ap, subst, sym, ◌∙◌, arith, true}
 use Rattle.std.specs.Prelude.{unwrap_or}
 use Rattle.sm_types.specs.declared.config.Config.{Config}
 use Rattle.sm_types.specs.declared.shared_op.Event.{Event}
 use Rattle.paged_memory.specs.Image.{Program}
 use Rattle.paged_memory.specs.Memory.{bytes_with, IsWhole as IsWholeMemory}
 use Rattle.kernel_contexts.specs.State.{State}
+use Rattle.kernel_contexts.specs.Run.{At, Ended, reach}
+use Rattle.kernel_contexts.specs.Turn.{is_delivery_due}
+use Rattle.kernel_contexts.specs.HandlerRun.{IsPlain}
 use Rattle.lazy_saving.specs.Dormant.{Places, IsLawful}
 use Rattle.lazy_saving.specs.Outcome.{IsWhole}
+use Rattle.za_routines.specs.Ways.{Place, ArePlainBetween}
+use Rattle.lone_runner.specs.Parting.{state_at}
+use Rattle.lone_runner.proofs.Partings.{stays_so}
+use Rattle.lone_runner.proofs.Rests.{join}
 use Rattle.abi_checker.specs.Faults.{block_of}
 use Rattle.abi_checker.specs.Checked.{states_of}
-use Rattle.abi_checker.specs.Brought.{IsReturned}
+use Rattle.abi_checker.specs.Brought.{IsReturned, IsReturnedAt}
+use Rattle.abi_checker.proofs.Deliveries.{later_or}
 
 -- the callee was lawful, and the states are whole; all that the laws of the tail ask of them
 pub record IsKnown (p : Places) (s r : State) (bytes : List ℕ) : Type 0 where
@@ -52,3 +60,26 @@ module _ (program : Program) (config : Config) (thread : ℕ) (journal : List Ev
   known_back s r h =
       subst (λ (t : State). IsKnown p s t bytes) h.after
       (subst (λ (t : State). IsKnown p t (states_of program config thread journal h.at) bytes) h.before (known_at s r h))
+
+  module _ (s : State) (from : Place) (h : IsReturnedAt program config thread journal count p s from bytes) where
+    pub known_there : IsKnown p s from.state bytes
+    known_there = known_back s from.state h.returned
+
+    -- what the turns lead to from there is of the run, and before its end
+    before_end : (n : ℕ) (q : Place) → reach program config thread journal n ≡ At q.state q.used q.left → n < h.returned.yes.turns
+    before_end n q is = elim (later_or h.returned.yes.turns n) [
+      | inl over ↦
+          let yes = h.returned.yes in
+          let end = stays_so program config thread journal 0 (Ended yes.state yes.stop yes.used []) refl yes.turns n over yes.ends in
+          let clash : At q.state q.used q.left ≡ Ended yes.state yes.stop yes.used [] = sym is ∙ end in absurd cc
+      | inr less ↦ less
+    ]
+
+    -- so all is plain there
+    pub plain_there : (to : Place) → ArePlainBetween config thread from to
+    plain_there to q later on due =
+        let n : ℕ = h.returned.at + later.0 in
+        let is = join program config thread journal h.returned.at from.state from.used from.left h.place later.0 ∙ later.1 in
+        let same : states_of program config thread journal n ≡ q.state = ap state_at is in
+        subst (λ (t : State). IsPlain config t) same
+        (h.returned.yes.plain n (before_end n q is) (subst (λ (t : State). is_delivery_due config t ≡ true) (sym same) due))

@@ -34,7 +34,7 @@ state_of_end s other = s
 
 -- ---- what is due
 
-goes_where : (b : Bool) (x y : TurnEnd) (t : State) → cond b x y ≡ Goes t → (x ≡ Goes t → ⊥) → y ≡ Goes t
+pub goes_where : (b : Bool) (x y : TurnEnd) (t : State) → cond b x y ≡ Goes t → (x ≡ Goes t → ⊥) → y ≡ Goes t
 goes_where true x y t e f = absurd (f e)
 goes_where false x y t e f = e
 
@@ -42,7 +42,7 @@ asks_no_more : (b : Bool) (s t : State) (op : SharedOp) (next : ℕ → State) �
 asks_no_more true s t op next e = cc
 asks_no_more false s t op next e = cc
 
-poll_asks : (config : Config) (thread events : ℕ) (s t : State) → poll_of thread events s ≡ Goes t → ⊥
+pub poll_asks : (config : Config) (thread events : ℕ) (s t : State) → poll_of thread events s ≡ Goes t → ⊥
 poll_asks config thread events s t e =
     asks_no_more (nat_le journal_limit events) s t (poll_op thread) (polled_with s) e
 
@@ -51,7 +51,7 @@ handled_counts : (config : Config) (signal handler : ℕ) (s t : State) (o : Opt
 handled_counts config signal handler s t None e = sym (ap (λ (end : TurnEnd). (state_of_end s end).count) e)
 handled_counts config signal handler s t (Some address) e = cc
 
-delivered_counts : (config : Config) (signal : ℕ) (s t : State) (o : Option ℕ) → delivered_to config signal s o ≡ Goes t
+pub delivered_counts : (config : Config) (signal : ℕ) (s t : State) (o : Option ℕ) → delivered_to config signal s o ≡ Goes t
     → t.count ≡ s.count
 delivered_counts config signal s t None e = cc
 delivered_counts config signal s t (Some handler) e = handled_counts config signal handler (released s) t _ e

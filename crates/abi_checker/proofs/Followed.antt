@@ -33,6 +33,7 @@ use Rattle.abi_checker.specs.declared.abi.Abi.{Abi}
 use Rattle.abi_checker.specs.declared.abi.AbiKind.{AbiKind}
 use Rattle.abi_checker.specs.declared.abi.AbiKind.TheVariants.{NotDormant, NotLawful, TooDeep}
 use Rattle.abi_checker.specs.declared.watch.Watch.{Watch}
+use Rattle.abi_checker.proofs.Deliveries.{plain_first, plain_next}
 use Rattle.abi_checker.proofs.Keeps.{run_keeps}
 use Rattle.abi_checker.proofs.WholeStates.{whole_first, whole_at}
 
@@ -99,6 +100,10 @@ module _ (program : Program) (config : Config) (thread : ℕ) (journal : List Ev
   pub now_state : run here ≡ state_of old
   now_state = ap state_at h.way.at
 
+  plain_now : IsPlain (config_of old) (state_of old) → IsPlain config (run here)
+  plain_now plain =
+      subst (λ (s : State). IsPlain config s) (sym now_state) (subst (λ (k : Config). IsPlain k (state_of old)) same plain)
+
   pub next_state : (new : Context) (after : ReplayEvents) (stop : Option Stop) → next_place old before ≡ place_of new after stop
       → run (suc here) ≡ state_of new
   next_state new after stop e =
@@ -134,10 +139,10 @@ module _ (program : Program) (config : Config) (thread : ℕ) (journal : List Ev
 
   pub followed_on : (new : Context) (after : ReplayEvents) (later : Watch) (told : Option Abi)
       → next_place old before ≡ place_of new after None → journal_of new ++ after.ahead ≡ journal_of old ++ before.ahead
-      → parting_at count (place_of new after None) ≡ None → IsUnderWay run (suc here) later told
-      → IsFollowed program config thread journal count new after later told
+      → parting_at count (place_of new after None) ≡ None → IsPlain (config_of old) (state_of old)
+      → IsUnderWay run (suc here) later told → IsFollowed program config thread journal count new after later told
   unfolding way_on
-  followed_on new after later told e stays none way = record {
+  followed_on new after later told e stays none plain way = record {
     way = way_on program config thread journal count old before same is h.way new after e stays none;
     goes = up_to
         (λ m. (s : State) × (done : ℕ) × (left : List Event) × (reach program config thread journal m ≡ At s done left)) here h.goes (
@@ -146,6 +151,7 @@ module _ (program : Program) (config : Config) (thread : ℕ) (journal : List Ev
           after.ahead,
           next_at program config thread journal count old before same is h.way (place_of new after None) e,
         );
+    plain = plain_next config run here h.plain (plain_now plain);
     told = way;
   }
 
@@ -170,9 +176,9 @@ module _ (program : Program) (config : Config) (thread : ℕ) (journal : List Ev
 
   pub checked : (new : Context) (after : ReplayEvents) (stop : Stop) (abi : Abi)
       → next_place old before ≡ place_of new after (Some stop)
-      → parting_at count (place_of new after (Some stop)) ≡ None → IsTold run (suc here) abi
-      → IsChecked program config thread journal count abi
-  checked new after stop abi e none told =
+      → parting_at count (place_of new after (Some stop)) ≡ None → IsPlain (config_of old) (state_of old)
+      → IsTold run (suc here) abi → IsChecked program config thread journal count abi
+  checked new after stop abi e none plain told =
       let end = whole_end program config thread journal count (state_of new) stop (length (journal_of new)) after.ahead none in
       record {
         turns = suc here;
@@ -183,6 +189,7 @@ module _ (program : Program) (config : Config) (thread : ℕ) (journal : List Ev
             ∙ ap (λ (l : List Event). Ended (state_of new) stop (length (journal_of new)) l) end.1;
         counts = end.0;
         first = λ earlier less. h.goes earlier (omega (arith, less));
+        plain = plain_next config run here h.plain (plain_now plain);
         told = told;
       }
 
@@ -203,6 +210,7 @@ followed_first count context ticket watch h e z known =
             ticket.ahead,
             ap (λ n. reach program config thread ticket.ahead n) zero ∙ reach_start program config thread ticket.ahead,
           );
+      plain = plain_first config (states_of program config thread ticket.ahead);
       told = watched_first (states_of program config thread ticket.ahead) watch e z known;
     }
 
@@ -212,7 +220,8 @@ pub checked_if : (program : Program) (config : Config) (thread : ℕ) (journal :
     (h : IsFollowed program config thread journal count old before watch found)
     (new : Context) (after : ReplayEvents) (stop : Option Stop) (abi : Abi) → IsStopped stop
     → next_place old before ≡ place_of new after stop → parting_at count (place_of new after stop) ≡ None
-    → IsTold (states_of program config thread journal) (suc h.way.turns) abi → IsChecked program config thread journal count abi
-checked_if program config thread journal count old before same is watch found h new after (Some stop) abi _ e none told =
-    checked program config thread journal count old before same is watch found h new after stop abi e none told
-checked_if program config thread journal count old before same is watch found h new after None abi s e none told = absurd s
+    → IsPlain (config_of old) (state_of old) → IsTold (states_of program config thread journal) (suc h.way.turns) abi
+    → IsChecked program config thread journal count abi
+checked_if program config thread journal count old before same is watch found h new after (Some stop) abi _ e none plain told =
+    checked program config thread journal count old before same is watch found h new after stop abi e none plain told
+checked_if program config thread journal count old before same is watch found h new after None abi s e none plain told = absurd s

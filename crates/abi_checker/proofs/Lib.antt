@@ -19,6 +19,7 @@ pub mod Executed
 pub mod Keeps
 pub mod Staying
 pub mod Quiet
+pub mod Deliveries
 pub mod Passed
 pub mod AtOnce
 pub mod Brought

@@ -9,7 +9,7 @@ use Rattle.kernel_contexts.specs.Run.{At, Ended, reach}
 use Rattle.lone_runner.specs.Parting.{state_at}
 use Rattle.abi_checker.specs.Numbers.{NumberOf}
 use Rattle.abi_checker.specs.Faults.{HasFault, HasReturned, IsOpen, IsFirstFault, AreLawful}
-use Rattle.abi_checker.specs.Whole.{AreWhole}
+use Rattle.abi_checker.specs.Whole.{AreWhole, ArePlainBefore}
 use Rattle.abi_checker.specs.declared.abi.Abi.{Abi}
 use Rattle.abi_checker.specs.declared.abi.Abi.TheVariants.{Yes, No}
 use Rattle.abi_checker.specs.declared.abi.AbiKind.{AbiKind}
@@ -41,7 +41,8 @@ IsTold run n (Yes calls unreturned) = IsFaultless run n calls unreturned
 IsTold run n (No count pc kind) = IsFaulty run n count pc kind
 
 -- the thread's run over the journal ends when so many instructions are counted, with exactly the journal's
--- events used, and this is what is told of its states, the last among them
+-- events used, and this is what is told of its states, the last among them; those in which a signal is
+-- delivered are plain
 pub record IsChecked (program : Program) (config : Config) (thread : ℕ) (journal : List Event) (count : ℕ)
     (abi : Abi)
     : Type 0 where
@@ -53,4 +54,5 @@ pub record IsChecked (program : Program) (config : Config) (thread : ℕ) (journ
   pub counts : state.count ≡ count
   pub first : (earlier : ℕ) → earlier < turns → (s : State) × (done : ℕ) × (left : List Event)
       × (reach program config thread journal earlier ≡ At s done left)
+  pub plain : ArePlainBefore (states_of program config thread journal) config turns
   pub told : IsTold (states_of program config thread journal) turns abi

@@ -11,6 +11,7 @@ use Rattle.kernel_contexts.specs.Context.{IsSameThread}
 use Rattle.kernel_contexts.specs.declared.context.Context.{Context}
 use Rattle.lone_runner.specs.Way.{IsOnItsWay}
 use Rattle.abi_checker.specs.Checked.{IsFaulty, states_of}
+use Rattle.abi_checker.specs.Whole.{ArePlainBefore}
 use Rattle.abi_checker.specs.Watching.{IsWatched}
 use Rattle.abi_checker.specs.declared.abi.Abi.{Abi}
 use Rattle.abi_checker.specs.declared.abi.Abi.TheVariants.{Yes, No}
@@ -34,6 +35,7 @@ pub record IsFollowed (program : Program) (config : Config) (thread : ℕ) (jour
   pub way : IsOnItsWay program config thread journal count context ticket
   pub goes : (m : ℕ) → m ≤ way.turns → (s : State) × (done : ℕ) × (left : List Event)
       × (reach program config thread journal m ≡ At s done left)
+  pub plain : ArePlainBefore (states_of program config thread journal) config way.turns
   pub told : IsUnderWay (states_of program config thread journal) way.turns watch found
 
 -- the context's own thread is followed so over some journal

@@ -1,8 +1,12 @@
--- The states of a run in which a marked call is made or returns, whole as those of each thread are.
-use Rattle.std.specs.Prelude.{◌≡◌, ℕ, ◌≤◌, length}
+-- The states of a run in which a marked call is made or returns, or a signal is delivered: whole and plain, as
+-- those of each thread are.
+use Rattle.std.specs.Prelude.{◌≡◌, ℕ, ◌<◌, ◌≤◌, true, length}
+use Rattle.sm_types.specs.declared.config.Config.{Config}
 use Rattle.paged_memory.specs.Memory.{IsWhole as IsWholeMemory}
 use Rattle.machine_step.specs.ProcessorState.{ProcessorState}
 use Rattle.kernel_contexts.specs.State.{State}
+use Rattle.kernel_contexts.specs.Turn.{is_delivery_due}
+use Rattle.kernel_contexts.specs.HandlerRun.{IsPlain}
 use Rattle.lazy_saving.specs.Dormant.{Places}
 use Rattle.lazy_saving.specs.Outcome.{IsWhole}
 use Rattle.abi_checker.specs.Faults.{IsMarkedAt, IsReturn}
@@ -23,3 +27,7 @@ module _ (run : ℕ → State) where
   pub record AreWhole (n : ℕ) : Type 0 where
     pub calls : (m : ℕ) (p : Places) → m ≤ n → IsMarkedAt run p m → IsWholeAt m
     pub returns : (c m : ℕ) (p : Places) → m ≤ n → IsReturn run p c m → IsWholeAt m
+
+  -- before state n a delivery is due in plain states alone
+  abbrev pub ArePlainBefore : Config → ℕ → Type 0
+  ArePlainBefore config n = (m : ℕ) → m < n → is_delivery_due config (run m) ≡ true → IsPlain config (run m)

@@ -17,7 +17,7 @@ ghost use Rattle.lone_runner.specs.Parting.{EndsAt};
 ghost use Rattle.abi_checker.specs.Marks.{is_call_word, is_call_insn};
 ghost use Rattle.abi_checker.specs.Faults.{block_of};
 ghost use Rattle.abi_checker.specs.Checked.{IsChecked};
-ghost use Rattle.abi_checker.specs.Brought.{IsReturned};
+ghost use Rattle.abi_checker.specs.Brought.{IsReturned, IsReturnedAt};
 ghost use Rattle.abi_checker.specs.declared.abi.Abi.{Abi};
 
 use lazy_saving::arrays_come_back;
@@ -37,9 +37,9 @@ pub fn one_answer()
 /// Where it is told of a run that no marked call is at fault, the tail of each that returned gives the caller
 /// its ZA back, as it was in the state after the call: all of it, where the callee left it on; else the slices
 /// that the block says, the others being zero. So it is where the instructions of the tail are executed one
-/// after another (`alone`), and where any number of polls are made and handlers run between them, over an area
-/// that has the block, the buffer and the words, once as many instructions of the thread's own are executed
-/// (`over`); before that the next one is executed (`under_way`).
+/// after another (`alone`), and in the run itself, where any number of polls are made and handlers run
+/// between them, over an area that has the block, the buffer and the words, once as many instructions of the
+/// thread's own are executed (`over`); before that the next one is executed (`under_way`).
 pub fn yes_brings_back()
     ensures alone { (program : Program) (config : Config) (thread : ℕ) (journal : List Event) (count : ℕ)
         (p : Places) (s r : State) (bytes : List ℕ)
@@ -49,14 +49,14 @@ pub fn yes_brings_back()
         × IsCallersArray r.core.za_on s.core t bytes }
     ensures over { (program : Program) (config : Config) (thread : ℕ) (journal : List Event) (count : ℕ)
         (p : Places) (s : State) (bytes : List ℕ) (area : ℕ → Bool) (steps : List Step) (from to : Place)
-        → IsReturned program config thread journal count p s from.state bytes
+        → IsReturnedAt program config thread journal count p s from bytes
         → Covers area p (length s.core.bank.za) (block_of s) bytes → AreSteps config thread area steps from to
         → own_instructions steps ≡ instructions_past from.state.core.za_on bytes
         → IsPastOver area p from.state.core to.state.core
         × IsCallersArray from.state.core.za_on s.core to.state.core bytes }
     ensures under_way { (program : Program) (config : Config) (thread : ℕ) (journal : List Event) (count : ℕ)
         (p : Places) (s : State) (bytes : List ℕ) (area : ℕ → Bool) (steps : List Step) (from to : Place)
-        → IsReturned program config thread journal count p s from.state bytes
+        → IsReturnedAt program config thread journal count p s from bytes
         → Covers area p (length s.core.bank.za) (block_of s) bytes → AreSteps config thread area steps from to
         → own_instructions steps < instructions_past from.state.core.za_on bytes
         → (u : ProcessorState) × (effect_of (vector_bytes config.vl) to.state.core ≡ Becomes u) }

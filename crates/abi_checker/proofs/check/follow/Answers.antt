@@ -69,7 +69,7 @@ returns-then-is_some-clause-checked c =
     c.contexts_are_plain.ensures c.context_is_whole.ensures c.in_ok-found.ensures in
     checked_if _ _ _ _ _ c.turns.context c.turns.ticket h.same.config h.same.thread c.turns.watch c.turns.found h.followed
     c.make_turn.new.context c.make_turn.new.ticket _ c.answer.result (some_of _ (sym c.is_some.ensures ∙ c.if-is_some.true)) e.turn
-    (sym c.parting.ensures ∙ c.in-None.is) (c.answer.ensures _ _ told)
+    (sym c.parting.ensures ∙ c.in-None.is) c.contexts_are_plain.ensures (c.answer.ensures _ _ told)
 
 pub go_far-requires-clause-some : goal.go_far-requires-clause-some
 go_far-requires-clause-some c =
@@ -89,7 +89,7 @@ go_far-requires-clause-some c =
     by_some _ _ _ _ _ mid ticket c.tell.new.self c.in_ok-found.found (e.same.image ∙ h.same.image) (e.same.config ∙ h.same.config)
     (e.same.thread ∙ h.same.thread)
     (followed_on _ _ _ _ _ c.turns.context c.turns.ticket h.same.config h.same.thread c.turns.watch c.turns.found h.followed mid ticket
-    c.tell.new.self c.in_ok-found.found (e.turn ∙ ap (place_of mid ticket) none) e.journal on told)
+    c.tell.new.self c.in_ok-found.found (e.turn ∙ ap (place_of mid ticket) none) e.journal on c.contexts_are_plain.ensures told)
 
 pub turns-preserved : goal.turns-preserved
 turns-preserved c =
@@ -115,7 +115,7 @@ turns-preserved c =
     let thread = e.same.thread ∙ h.same.thread in
     let followed =
     followed_on _ _ _ _ _ c.turns.context c.turns.ticket h.same.config h.same.thread c.turns.watch c.turns.found h.followed mid ticket
-    c.tell.new.self c.in_ok-found.found (e.turn ∙ ap (place_of mid ticket) none) e.journal on told in
+    c.tell.new.self c.in_ok-found.found (e.turn ∙ ap (place_of mid ticket) none) e.journal on c.contexts_are_plain.ensures told in
     record {
       followed = moved (image_of mid) (image_of start) (config_of mid) (config_of start) (thread_of mid) (thread_of start) image config
           thread journal c.args.count new ticket c.go_far.new.watch c.in_ok-found-2.found
