@@ -10,6 +10,7 @@ use Rattle.field_table.specs.declared.place.BadField.{BadField}
 use Rattle.field_table.proofs.Tables.{passes_filled, filled_reads}
 use Rattle.field_table.proofs.Reading.{fails_more}
 use Rattle.report_reader.specs.Report.{Report}
+use Rattle.ckpt_fields.specs.Rows as rows
 use Rattle.ckpt_fields.specs.Rows.{checkpoint_table, bad_field, checkpoint_fault}
 use Rattle.ckpt_fields.specs.Told.{IsFault, AnswersOrLacks, IsFaultOf}
 use Rattle.ckpt_fields.specs.declared.fault.CkptFault.{CkptFault}
@@ -46,18 +47,18 @@ begin bytes = record { at = 0; bytes = bytes }
 not_long : (bytes : List ℕ) → length bytes ≤ 67108864 → nat_lt 67108864 (length bytes) ≡ false
 not_long bytes l = grind (arith, nat_tests)
 
-pub too_long : (report : Report) (bytes : List ℕ) → 67108864 < length bytes → checkpoint_fault report bytes ≡ Some TooLong
+pub too_long : (report : Report) (bytes : List ℕ) → 67108864 < length bytes → checkpoint_fault report bytes ≡ Some rows.TooLong
 unfolding checkpoint_fault
 too_long report bytes l = let test : nat_lt 67108864 (length bytes) ≡ true = grind (arith, nat_tests) in rw test refl
 
 field_bad : (report : Report) (bytes : List ℕ) (place : Left) (offset : ℕ) → place ≡ begin bytes → length bytes ≤ 67108864
-    → first_bad (checkpoint_table report) place.bytes place.at ≡ Some offset → checkpoint_fault report bytes ≡ Some (Field offset)
+    → first_bad (checkpoint_table report) place.bytes place.at ≡ Some offset → checkpoint_fault report bytes ≡ Some (rows.Field offset)
 unfolding checkpoint_fault
 field_bad report bytes place offset e l bad =
     let short : nat_lt 67108864 (length bytes) ≡ false = not_long bytes l in
     let here : bad_field report bytes ≡ Some offset =
     ap (λ (p : Left). first_bad (checkpoint_table report) p.bytes p.at) (sym e) ∙ bad in
-    rw short (ap (option_map Field) here)
+    rw short (ap (option_map rows.Field) here)
 
 is_fault_of : (report : Report) (bytes : List ℕ) (place : Left) (fault : CkptFault) → place ≡ begin bytes → length bytes ≤ 67108864
     → IsFault (checkpoint_table report) place fault → IsFaultOf report bytes fault
@@ -99,4 +100,4 @@ file_good report bytes values l filled whole =
     let short : nat_lt 67108864 (length bytes) ≡ false = not_long bytes l in
     let good : bad_field report bytes ≡ None =
     ap (λ b. first_bad (checkpoint_table report) b 0) whole ∙ filled_reads (checkpoint_table report) values 0 filled in
-    rw short (ap (option_map Field) good)
+    rw short (ap (option_map rows.Field) good)

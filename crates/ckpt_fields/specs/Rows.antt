@@ -29,8 +29,6 @@ use Rattle.std.specs.Prelude.{ℕ, ◌+◌, ◌*◌, ◌/◌, ◌%◌, ◌^◌, 
 use Rattle.std.specs.Prelude.{Bool, true, if◌then◌else◌, List, [], ◌∷◌, length, map, slice_index, Option, Some, option_map}
 use Rattle.sm_types.specs.declared.numbers.Numbers.{Numbers}
 use Rattle.report_reader.specs.Report.{Report}
-use Rattle.ckpt_fields.specs.declared.fault.CkptFault.{CkptFault}
-use Rattle.ckpt_fields.specs.declared.fault.CkptFault.TheVariants.{TooLong, Field}
 use Rattle.field_table.specs.Table.{Table, End, first_bad}
 use Rattle.field_table.specs.Rows.{number, said, told, fields, repeated}
 
@@ -179,7 +177,12 @@ checkpoint_table report = first_rows report.image report.options (from_thread re
 abbrev pub bad_field : Report → List ℕ → Option ℕ
 bad_field report bytes = first_bad (checkpoint_table report) bytes 0
 
--- why a file is no checkpoint for a report, if it is none: it has more than 67,108,864 bytes, or a bad field
-unfoldable pub checkpoint_fault : Report → List ℕ → Option CkptFault
+-- why a file is no checkpoint for a report: it has more than 67,108,864 bytes, or a bad field at this offset
+pub data Fault : Type 0 where
+  TooLong : Fault
+  Field : ℕ → Fault
+
+-- the fault of a file, if it is no checkpoint
+unfoldable pub checkpoint_fault : Report → List ℕ → Option Fault
 checkpoint_fault report bytes =
     if nat_lt 67108864 (length bytes) then Some TooLong else option_map Field (bad_field report bytes)

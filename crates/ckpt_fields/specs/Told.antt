@@ -4,6 +4,7 @@ use Rattle.field_table.specs.Table.{Table}
 use Rattle.field_table.specs.Reading.{Left, Reads, Fails}
 use Rattle.field_table.specs.declared.place.BadField.{BadField}
 use Rattle.report_reader.specs.Report.{Report}
+use Rattle.ckpt_fields.specs.Rows as rows
 use Rattle.ckpt_fields.specs.Rows.{checkpoint_fault}
 use Rattle.ckpt_fields.specs.declared.fault.CkptFault.{CkptFault}
 use Rattle.ckpt_fields.specs.declared.fault.CkptFault.TheVariants.{TooLong, Field, Memory}
@@ -29,6 +30,6 @@ AnswersOrLacks table values next from to (Err fault) = IsFault table from fault
 
 -- the fault of a file is that by which it is no checkpoint for a report; want of memory says nothing of it
 abbrev pub IsFaultOf : Report → List ℕ → CkptFault → Type 0
-IsFaultOf report bytes TooLong = checkpoint_fault report bytes ≡ Some TooLong
-IsFaultOf report bytes (Field offset) = checkpoint_fault report bytes ≡ Some (Field offset)
+IsFaultOf report bytes TooLong = checkpoint_fault report bytes ≡ Some rows.TooLong
+IsFaultOf report bytes (Field offset) = checkpoint_fault report bytes ≡ Some (rows.Field offset)
 IsFaultOf report bytes Memory = Unit {0}

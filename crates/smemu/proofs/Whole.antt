@@ -5,9 +5,8 @@ use Rattle.std.proofs.lemmas.Bool.Decides.{nat_tests}
 use Rattle.std.proofs.lemmas.Grind.{common_steps}
 use Rattle.std.specs.Prelude.{IfSome, option_map, nat_lt}
 use Rattle.asm_core.specs.Faults.{asm_fault}
+use Rattle.ckpt_fields.specs.Rows as ckpt
 use Rattle.ckpt_fields.specs.Rows.{checkpoint_fault}
-use Rattle.ckpt_fields.specs.declared.fault.CkptFault.{CkptFault}
-use Rattle.ckpt_fields.specs.declared.fault.CkptFault.TheVariants as ckpt
 use Rattle.asm_core.specs.declared.fault.AsmFault.TheVariants as asm
 use Rattle.elf_headers.specs.declared.fault.LoadFault.TheVariants as load
 use Rattle.elf_loader.proofs.Checks.{long_refused}
@@ -181,7 +180,7 @@ long_checkpoint said file h = rw (is_long file h) refl
 pub checkpoint_bounded : (said : Report) → IsBounded (checkpoint_judge (Ok said)) 67108864
 checkpoint_bounded said = record {
   too_long = rejection.Checkpoint (field_told ckpt.TooLong);
-  long = λ file h. ap (option_map (λ (fault : CkptFault). rejection.Checkpoint (field_told fault))) (long_checkpoint said file h);
+  long = λ file h. ap (option_map (λ (fault : ckpt.Fault). rejection.Checkpoint (field_told fault))) (long_checkpoint said file h);
 }
 
 long_vectors : (vl svl : VecLen) (file : List ℕ) → 67108864 < length file → fault_in (vectors_in vl svl file) ≡ Some grammar.TooLong

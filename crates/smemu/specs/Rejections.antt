@@ -8,9 +8,8 @@ use Rattle.plan_reader.specs.Plan as plan
 use Rattle.report_reader.specs.Reading.{Fault}
 use Rattle.report_reader.specs.Report.{Report, report_in}
 use Rattle.script_reader.specs.Script.{script_in}
+use Rattle.ckpt_fields.specs.Rows as ckpt
 use Rattle.ckpt_fields.specs.Rows.{checkpoint_fault}
-use Rattle.ckpt_fields.specs.declared.fault.CkptFault.{CkptFault}
-use Rattle.ckpt_fields.specs.declared.fault.CkptFault.TheVariants as ckpt
 use Rattle.command_lines.specs.CheckpointLines.{checkpoint_line}
 use Rattle.command_lines.specs.FaultLines.{fault_line}
 use Rattle.command_lines.specs.PlanLines.{plan_line}
@@ -90,16 +89,15 @@ abbrev pub script_judge : Judge
 script_judge file =
     option_map (λ (fault : plan.Fault). rejection.Plan fault.line fault.kind) (fault_in (script_in file))
 
--- the fault of a checkpoint, as it is told; want of memory is none of a file
-abbrev pub field_told : CkptFault → CheckpointFault
+-- the fault of a checkpoint, as it is told
+abbrev pub field_told : ckpt.Fault → CheckpointFault
 field_told ckpt.TooLong = checkpoints.TooLong
 field_told (ckpt.Field offset) = checkpoints.Field offset
-field_told ckpt.Memory = checkpoints.TooLong
 
 -- as a checkpoint for what a report says; one that says nothing has none
 abbrev pub checkpoint_judge : Result Report Fault → Judge
 checkpoint_judge (Ok said) file =
-    option_map (λ (fault : CkptFault). rejection.Checkpoint (field_told fault)) (checkpoint_fault said file)
+    option_map (λ (fault : ckpt.Fault). rejection.Checkpoint (field_told fault)) (checkpoint_fault said file)
 checkpoint_judge (Err fault) file = Some (rejection.Report fault.line fault.kind)
 
 -- after these files, of which the last is the report

@@ -8,8 +8,8 @@ use Rattle.sha2.specs.Sha256.{sha256}
 use Rattle.sha2.proofs.Facts256.{length-sha256}
 use Rattle.sm_types.specs.declared.numbers.Numbers.{Numbers}
 use Rattle.edge_io.specs.Files.{Told}
+use Rattle.ckpt_fields.specs.Rows as ckpt
 use Rattle.ckpt_fields.specs.Rows.{checkpoint_fault}
-use Rattle.ckpt_fields.specs.declared.fault.CkptFault.{CkptFault}
 use Rattle.report_reader.specs.Reading.{Fault}
 use Rattle.report_reader.specs.Report.{Report, report_in}
 use Rattle.report_reader.specs.declared.fault.ReportKind.TheVariants.{Image, NoThread}
@@ -104,7 +104,7 @@ module _ (file report : List ℕ) (thread count : ℕ) (bytes : List ℕ) (c : I
     judged : checkpoint_judge (report_in report) bytes ≡ None
     judged =
         ap (λ (r : Result Report Fault). checkpoint_judge r bytes) c.at.reads
-        ∙ ap (option_map (λ (fault : CkptFault). rejection.Checkpoint (field_told fault))) is_read
+        ∙ ap (option_map (λ (fault : ckpt.Fault). rejection.Checkpoint (field_told fault))) is_read
 
 -- ---- over files that are told
 

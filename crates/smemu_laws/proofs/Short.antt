@@ -22,8 +22,7 @@ use Rattle.ckpt_fields.specs.Rows.{array_size, bad_field, checkpoint_fault, chec
 use Rattle.ckpt_fields.specs.Rows.{from_registers}
 use Rattle.ckpt_fields.specs.Rows.{from_system, from_thread, from_vectors, handler_row, handlers_of, length_for, options_rows, output_rows}
 use Rattle.ckpt_fields.specs.Rows.{page_row, pages_of, system_rows, thread_rows, vector_rows}
-use Rattle.ckpt_fields.specs.declared.fault.CkptFault.{CkptFault}
-use Rattle.ckpt_fields.specs.declared.fault.CkptFault.TheVariants as ckpt
+use Rattle.ckpt_fields.specs.Rows as ckpt
 use Rattle.ckpt_file.specs.Checkpoint.{checkpoint, checkpoint_values, ReadsCheckpoint}
 
 -- ---- what fills a table has so many bytes at most
