@@ -55,7 +55,7 @@ flags_good s =
     below_test : (a b : ℕ) → a < b → nat_lt a b ≡ true
     below_test a b l = grind (arith, nat_tests)
 
-flags_low : (s : Scalars) → nzcv_of s < 2 ^ 64
+pub flags_low : (s : Scalars) → nzcv_of s < 2 ^ 64
 unfolding nzcv_of
 flags_low s =
     let n = small_flag s.n in
@@ -69,7 +69,7 @@ modes_good true false = refl
 modes_good false true = refl
 modes_good false false = refl
 
-modes_low : (a b : Bool) → bool_number a + 2 * bool_number b < 2 ^ 64
+pub modes_low : (a b : Bool) → bool_number a + 2 * bool_number b < 2 ^ 64
 modes_low a b =
     let first = small_flag a in
     let second = small_flag b in omega (arith, first, second)
@@ -82,7 +82,7 @@ length_by options true false array l = sym l
 length_by options false true array l = refl
 length_by options false false array l = refl
 
-array_by : (options : Numbers) (on za : Bool)
+pub array_by : (options : Numbers) (on za : Bool)
     → array_size options (bool_number on + 2 * bool_number za) ≡ (if za then options.svl / 8 else 0)
 array_by options true true = refl
 array_by options true false = refl
@@ -98,7 +98,7 @@ registers_sized size r h =
     (sized_predicates 16 size r.predicates h.predicate_count h.predicate_length)
     (length-predicate r.ffr ∙ ap (λ n. n / 8) h.ffr_length)
 
-predicates_many : (size : ℕ) (r : VectorRegisters) → AreOfLength size r
+pub predicates_many : (size : ℕ) (r : VectorRegisters) → AreOfLength size r
     → length (map predicate_bytes r.predicates ++ predicate_bytes r.ffr ∷ []) ≡ 17
 predicates_many size r h =
     omega (
@@ -108,7 +108,7 @@ predicates_many size r h =
       h.predicate_count,
     )
 
-array_many : (on : Bool) (size : ℕ) (za : List (List ℕ)) → length za ≡ size → length (array_values on za) ≡ (if on then size else 0)
+pub array_many : (on : Bool) (size : ℕ) (za : List (List ℕ)) → length za ≡ size → length (array_values on za) ≡ (if on then size else 0)
 array_many true size za h = h
 array_many false size za h = refl
 
@@ -133,13 +133,13 @@ at_most_test : (a b : ℕ) → a ≤ b → nat_le a b ≡ true
 at_most_test a b l = grind (arith, nat_tests)
 
 -- from the pages on, from the output on, and so on
-abbrev output_left : State → List (List ℕ)
+abbrev pub output_left : State → List (List ℕ)
 output_left s = output_values s.output ++ page_values (pages_in s.core.memory)
 
-abbrev handlers_left : State → List (List ℕ)
+abbrev pub handlers_left : State → List (List ℕ)
 handlers_left s = handler_values (entries s.handlers) ++ output_left s
 
-abbrev vectors_left : State → List (List ℕ)
+abbrev pub vectors_left : State → List (List ℕ)
 vectors_left s = vector_values s.core.bank.registers ++ (array_values s.core.za_on s.core.bank.za ++ handlers_left s)
 
 module _ (report : Report) (s : State) (thread events : ℕ) (good : IsInTable report s thread events)

@@ -1,18 +1,15 @@
 -- What is left of a run from a checkpoint that a report reads either parts from the block, or ends as it says.
-use Rattle.std.proofs.Common.{◌≡◌, ℕ, ◌+◌, ◌*◌, ◌/◌, ◌^◌, ◌<◌, ◌≤◌, ◌&&◌, ◌++◌, Bool, true, false, cond, List, [], ◌∷◌, length, map}
-use Rattle.std.proofs.Common.{None, Some, refl, ap, sym, ◌∙◌}
-use Rattle.std.proofs.Common.{subst, arith, length-append}
-use Rattle.std.specs.Prelude.{◌==◌, nat_le, nat_lt, slice_index, if◌then◌else◌}
-use Rattle.std.specs.FinMap.{entries, find, get, get-entries}
+use Rattle.std.proofs.Common.{◌≡◌, ℕ, ◌+◌, ◌/◌, ◌<◌, ◌++◌, Bool, true, false, cond, List, [], ◌∷◌, length, map}
+use Rattle.std.proofs.Common.{None, Some, refl, ap, sym, ◌∙◌, arith}
+use Rattle.std.specs.Prelude.{◌==◌, nat_lt, slice_index}
+use Rattle.std.specs.FinMap.{entries, find, get-entries}
 use Rattle.std.specs.Ordering.{eq_by_cmp, nat_cmp}
 use Rattle.std.proofs.lemmas.Bool.Decides.{nat_tests}
 use Rattle.std.proofs.lemmas.List.{length-map}
-use Rattle.bit_ops.specs.Sums.{bool_number}
 use Rattle.byteorder.specs.Endian.{little_bytes, little_number}
 use Rattle.sm_types.specs.declared.numbers.Numbers.{Numbers}
-use Rattle.sm_types.specs.declared.scalars.Scalars.{Scalars}
 use Rattle.sve_vectors.specs.Predicates.{predicate_bytes}
-use Rattle.sve_vectors.specs.Registers.{AreOfLength, VectorRegisters}
+use Rattle.sve_vectors.specs.Registers.{VectorRegisters}
 use Rattle.machine_step.specs.System.{nzcv_of, svcr_of}
 use Rattle.kernel_contexts.specs.Handlers.{is_signal}
 use Rattle.kernel_contexts.specs.State.{State}
@@ -23,12 +20,11 @@ use Rattle.lone_runner.proofs.Partings.{rest_ends_unless}
 use Rattle.report_reader.specs.Report.{Report}
 use Rattle.field_table.specs.Rows.{number, said}
 use Rattle.field_table.specs.Table.{IsFilled}
-use Rattle.ckpt_fields.specs.Rows.{array_size, checkpoint_table, counts, from_handlers, from_output, from_registers, from_system}
-use Rattle.ckpt_fields.specs.Rows.{from_thread}
-use Rattle.ckpt_fields.specs.Rows.{first_rows, from_vectors, is_count, is_signal_past, options_rows}
-use Rattle.ckpt_fields.specs.Values.{first_values, handler_values, option_values, output_values, page_values, system_values}
-use Rattle.ckpt_file.specs.Checkpoint.{array_values, checkpoint_values, pages_in, register_values, state_values, vector_values}
-use Rattle.ckpt_file.specs.Checkpoint.{ReadsCheckpoint}
+use Rattle.ckpt_fields.specs.Rows.{checkpoint_table, counts, from_handlers, from_output, from_registers, from_system, from_thread}
+use Rattle.ckpt_fields.specs.Rows.{first_rows, from_vectors, is_signal_past, options_rows}
+use Rattle.ckpt_fields.specs.Values.{first_values, option_values, system_values}
+use Rattle.ckpt_file.specs.Checkpoint.{array_values, checkpoint_values, register_values, state_values, vector_values, ReadsCheckpoint}
+use Rattle.ckpt_file.proofs.Filled.{array_by, array_many, flags_low, handlers_left, modes_low, output_left, predicates_many, vectors_left}
 use Rattle.ckpt_file.proofs.Filling.{each_of_all, fields_good}
 use Rattle.ckpt_file.proofs.Modes.{and_second}
 use Rattle.ckpt_file.proofs.Parts.{first_good, handlers_good, system_good, thread_good, vectors_good, AreHandlersPast, IsNarrowEntry}
@@ -67,57 +63,10 @@ not_found last k (e ∷ es) h none =
 
 -- ---- the fields of a state
 
-small_flag : (b : Bool) → bool_number b ≤ 1
-small_flag true = omega arith
-small_flag false = omega arith
-
-flags_low : (s : Scalars) → nzcv_of s < 2 ^ 64
-unfolding nzcv_of
-flags_low s =
-    let n = small_flag s.n in
-    let z = small_flag s.z in
-    let c = small_flag s.c in
-    let v = small_flag s.v in omega (arith, n, z, c, v)
-
-modes_low : (a b : Bool) → bool_number a + 2 * bool_number b < 2 ^ 64
-modes_low a b =
-    let first = small_flag a in
-    let second = small_flag b in omega (arith, first, second)
-
-array_by : (options : Numbers) (on za : Bool)
-    → array_size options (bool_number on + 2 * bool_number za) ≡ (if za then options.svl / 8 else 0)
-array_by options true true = refl
-array_by options true false = refl
-array_by options false true = refl
-array_by options false false = refl
-
-array_many : (on : Bool) (size : ℕ) (za : List (List ℕ)) → length za ≡ size → length (array_values on za) ≡ (if on then size else 0)
-array_many true size za h = h
-array_many false size za h = refl
-
-predicates_many : (size : ℕ) (r : VectorRegisters) → AreOfLength size r
-    → length (map predicate_bytes r.predicates ++ predicate_bytes r.ffr ∷ []) ≡ 17
-predicates_many size r h =
-    omega (
-      arith,
-      length-append (map predicate_bytes r.predicates) (predicate_bytes r.ffr ∷ []),
-      length-map r.predicates predicate_bytes,
-      h.predicate_count,
-    )
-
 module _ (bytes : List ℕ) (report : Report) (s : State) (thread events : ℕ) (h : ReadsCheckpoint bytes report s thread events) where
-  abbrev output_left : List (List ℕ)
-  output_left = output_values s.output ++ page_values (pages_in s.core.memory)
-
-  abbrev handlers_left : List (List ℕ)
-  handlers_left = handler_values (entries s.handlers) ++ output_left
-
-  abbrev vectors_left : List (List ℕ)
-  vectors_left = vector_values s.core.bank.registers ++ (array_values s.core.za_on s.core.bank.za ++ handlers_left)
-
   abbrev system_left : List (List ℕ)
   system_left =
-      system_values (nzcv_of s.core.scalars) (svcr_of s.core) s.core.tpidr s.core.tpidr2 s.held s.mask s.polled ++ vectors_left
+      system_values (nzcv_of s.core.scalars) (svcr_of s.core) s.core.tpidr s.core.tpidr2 s.held s.mask s.polled ++ vectors_left s
 
   progress : IsProgress report thread s.count events s.depth s.turns × IsFilled (from_registers report) (state_values s)
   unfolding checkpoint_table checkpoint_values
@@ -139,10 +88,10 @@ module _ (bytes : List ℕ) (report : Report) (s : State) (thread events : ℕ) 
       omega (arith, length-map s.core.scalars.x (little_bytes 8), h.widths.core.count) in
       fields_good 33 8 (from_system report) (register_values s.core.scalars) system_left many progress.1
 
-  vectors_filled : IsFilled (from_vectors report (svcr_of s.core)) vectors_left
+  vectors_filled : IsFilled (from_vectors report (svcr_of s.core)) (vectors_left s)
   vectors_filled =
       (system_good report.options.kernel (from_vectors report) (nzcv_of s.core.scalars) (svcr_of s.core) s.core.tpidr s.core.tpidr2 s.held
-      s.mask s.polled vectors_left
+      s.mask s.polled (vectors_left s)
       (record {
         nzcv_fits = flags_low s.core.scalars;
         svcr_fits = modes_low s.core.streaming s.core.za_on;
@@ -152,12 +101,12 @@ module _ (bytes : List ℕ) (report : Report) (s : State) (thread events : ℕ) 
         mask_fits = h.widths.mask;
       }) system_filled).1
 
-  handlers_filled : IsFilled from_handlers handlers_left
+  handlers_filled : IsFilled from_handlers (handlers_left s)
   unfolding vector_values
   handlers_filled =
       let r : VectorRegisters = s.core.bank.registers in
       vectors_good report.options (svcr_of s.core) from_handlers r.vectors (map predicate_bytes r.predicates ++ predicate_bytes r.ffr ∷ [])
-      (array_values s.core.za_on s.core.bank.za) handlers_left h.widths.core.registers.vector_count
+      (array_values s.core.za_on s.core.bank.za) (handlers_left s) h.widths.core.registers.vector_count
       (predicates_many _ r h.widths.core.registers)
       (array_many s.core.za_on (report.options.svl / 8) s.core.bank.za h.widths.array
       ∙ sym (array_by report.options s.core.streaming s.core.za_on)) vectors_filled
@@ -165,7 +114,7 @@ module _ (bytes : List ℕ) (report : Report) (s : State) (thread events : ℕ) 
   of_signals : AreOfSignals s.handlers
   of_signals k none =
       let good =
-      handlers_good from_output (entries s.handlers) output_left h.widths.few_handlers
+      handlers_good from_output (entries s.handlers) (output_left s) h.widths.few_handlers
       (each_of_all IsNarrowEntry (entries s.handlers) h.widths.handlers) handlers_filled in
       get-entries s.handlers k ∙ not_found 0 k (entries s.handlers) good.1 none
 
