@@ -11,7 +11,7 @@ ghost use Rattle.lone_runner.specs.declared.fault.AloneFault.{AloneFault};
 ghost use Rattle.kept_states.specs.Kept.{IsKept, kept_count};
 ghost use Rattle.sme_debugger.specs.Recording.{Recording, recorded};
 ghost use Rattle.sme_debugger.specs.Standing.{IsOnRun, AreOnRun, IsOfRun, IsShowing, IsKeeping};
-ghost use Rattle.sme_debugger.specs.Standing.{IsOnRun-prop, AreOnRun-prop, IsShowing-prop};
+ghost use Rattle.sme_debugger.specs.OneProof.{IsOnRun-prop, AreOnRun-prop, IsShowing-prop};
 
 use kept_states::KeptState;
 use kernel_contexts::{Context, Loose};
