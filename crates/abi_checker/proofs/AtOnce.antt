@@ -17,6 +17,7 @@ use Rattle.kernel_contexts.specs.declared.context.Context.{Context}
 use Rattle.lone_runner.specs.Parting.{parting_at}
 use Rattle.lone_runner.proofs.Partings.{compared}
 use Rattle.lone_runner.proofs.Several.{way_goes_on, gone_at, not_passed, up_to_count}
+use Rattle.abi_checker.specs.Near.{is_near}
 use Rattle.abi_checker.specs.Straight.{KeepsCode}
 use Rattle.abi_checker.specs.Checked.{states_of}
 use Rattle.abi_checker.specs.Whole.{IsWholeWith, IsWholeAt}
@@ -30,7 +31,7 @@ use Rattle.abi_checker.proofs.Deliveries.{plain_over}
 use Rattle.abi_checker.proofs.Followed.{now_state, past_counted}
 use Rattle.abi_checker.proofs.Keeps.{counted_keeps}
 use Rattle.abi_checker.proofs.WholeStates.{whole_at}
-use Rattle.abi_checker.proofs.Passed.{told_later}
+use Rattle.abi_checker.proofs.Passed.{passed, told_later}
 use Rattle.abi_checker.proofs.Quiet.{AreCounted, are_counted, run_after, no_mark, watched_each}
 
 module _ (program : Program) (config : Config) (thread : ℕ) (journal : List Event) (count : ℕ) (old : Context) (ticket : ReplayEvents)
@@ -255,6 +256,24 @@ module _ (program : Program) (config : Config) (thread : ℕ) (journal : List Ev
     pub round_quiet : is_some found ≡ false → IsFollowed program config thread journal count new ticket later None
     round_quiet quiet =
         subst (λ o. IsFollowed program config thread journal count new ticket later o) (none_of found quiet) round_followed
+
+-- nothing is told where no call comes back, after turns of which none was a marked call
+module _ (program : Program) (config : Config) (thread : ℕ) (journal : List Event) (count : ℕ) (old : Context) (ticket : ReplayEvents)
+    (same : config_of old ≡ config) (is : thread_of old ≡ thread) (watch : Watch)
+    (h : IsFollowed program config thread journal count old ticket watch None) (new : Context) (n least told : ℕ)
+    (e : AdvancesSeveral least old new n) (mid : Watch) (next : Next) (counts : told ≡ (state_of old).count)
+    (few : least ≡ min next.most (count - told))
+    (watched : (run : ℕ → State) (m : ℕ) → IsWatched run m watch → run m ≡ state_of old → IsWatched run m mid)
+    (planned : (run : ℕ → State) (m : ℕ) → IsWatched run m watch → run m ≡ state_of old → IsPlanned mid.near (run m) next)
+    (whole : IsWholeWith (vector_bytes (config_of new).svl) (state_of new).core) (some : n ≡ 0 → ⊥)
+    (call : next.call ≡ None) (away : is_near mid.near (state_of new).core.scalars.pc ≡ false) where
+  pub round_passes : IsFollowed program config thread journal count new ticket mid None
+  round_passes =
+      round_followed program config thread journal count old ticket same is watch h new n least told e mid next counts few watched
+      planned mid None
+      (λ run m way at past grows there code.
+      passed run m mid (state_of new) None way at (subst (λ o. IsPast (run m) (run (suc m)) o) call past) grows there code away)
+      whole some
 
 -- a fault was told, and the turns go on
 found_later : (run : ℕ → State) (n k : ℕ) (watch : Watch) (found : Option Abi) → is_some found ≡ true → IsUnderWay run n watch found

@@ -1,6 +1,5 @@
 -- A turn after which nothing is to be told, and what was told before.
-use Rattle.std.proofs.Common.{◌≡◌, ℕ, suc, ◌+◌, ◌≤◌, Option, Some, None, false, refl, subst, arith}
-use Rattle.std.specs.Option.{is_some}
+use Rattle.std.proofs.Common.{◌≡◌, ℕ, suc, ◌+◌, ◌≤◌, Option, Some, None, false, subst, arith}
 use Rattle.kernel_contexts.specs.State.{State}
 use Rattle.abi_checker.specs.Near.{is_near}
 use Rattle.abi_checker.specs.Straight.{KeepsCode}
@@ -21,10 +20,6 @@ told_later run n k watch (Yes calls unreturned) h = absurd h
 told_later run n k watch (No count pc kind) h =
     let within = h.within in
     record { at = h.at; within = omega (arith, within); first = h.first; counts = h.counts; place = h.place }
-
-pub no_call : (o : Option ℕ) → is_some o ≡ false → o ≡ None
-no_call None e = refl
-no_call (Some past) e = cc
 
 -- no call comes back there, and the turn was no marked call
 pub passed : (run : ℕ → State) (n : ℕ) (watch : Watch) (s : State) (found : Option Abi) → IsUnderWay run n watch found

@@ -52,6 +52,9 @@ fn go_at_once(context: &mut Context, count: u32, watch: &mut Watch) -> Result<Op
             return Ok(None);
         }
         context_is_whole(context);
+        if watch.passes(context, next.call) {
+            continue;
+        }
         let found = watch.tell(context, next.call, None)?;
         if found.is_some() {
             return Ok(found);

@@ -1,6 +1,6 @@
 //! The marked calls of a run that is under way.
-ghost use Rattle.std.specs.Prelude.{◌≡◌, ◌+◌, ◌<◌, ◌≤◌, ◌^◌, [], ℕ, suc, true, false, not, Ok, IfOk};
-ghost use Rattle.std.specs.Prelude.{length};
+ghost use Rattle.std.specs.Prelude.{◌≡◌, ◌+◌, ◌<◌, ◌≤◌, ◌^◌, [], ℕ, suc, true, false, not, Ok, None, IfOk};
+ghost use Rattle.std.specs.Prelude.{IsTrue, length};
 ghost use Rattle.std.specs.List.{All, Contains, filter};
 ghost use Rattle.kernel_contexts.specs.Context.{state_of, is_home};
 ghost use Rattle.kernel_contexts.specs.State.{State};
@@ -243,10 +243,20 @@ impl Watch {
             → KeepsCode (run n).core.memory (run (suc n)).core.memory
             → IfOk result (λ told. IsUnderWay run (suc n) self.new told) }
     {
-        if past.is_none() && !self.is_near(context.machine().scalars.pc) {
+        if self.passes(context, past) {
             return Ok(found);
         }
         self.tell_there(context, past, found)
+    }
+
+    /// Whether nothing is to be told: the turn was no marked call, and no call comes back there.
+    #[inline]
+    pub fn passes(&self, context: &Context, past: Option<u64>) -> bool
+        ensures call { IsTrue result → past ≡ None }
+        ensures away { IsTrue result
+            → is_near self.now.near (state_of context.now).core.scalars.pc ≡ false }
+    {
+        past.is_none() && !self.is_near(context.machine().scalars.pc)
     }
 
     /// What is told of a run that is at its end.

@@ -177,10 +177,9 @@ impl Context {
         ensures { AdvancesSeveralOn most self.old bank.old self.new bank.new result }
     {
         if is_owned(bank, self.guest.number) {
-            self.guest.make_several_turns(bank, false, most)
+            self.guest.make_many_turns(bank, false, most)
         } else {
-            self.guest
-                .make_several_turns(&mut self.save_area, true, most)
+            self.guest.make_many_turns(&mut self.save_area, true, most)
         }
     }
 

@@ -256,6 +256,24 @@ impl GuestThread {
         made
     }
 
+    /// The same as a call of its own, for a thread that makes many turns at a time and may have the bank of a
+    /// core.
+    #[inline(never)]
+    pub fn make_many_turns(&mut self, bank: &mut Bank, apart: bool, most: u32) -> u32
+        requires { IsFit self.old.config self.old.machine bank.old }
+        ensures turns { GoesApart apart self.old.config self.old.number (guest_events self.old) result
+            (held_state self.old bank.old) (held_state self.new bank.new) }
+        ensures few { result ≤ most }
+        ensures count { self.new.count ≡ self.old.count + result }
+        ensures made { self.new.turns ≡ self.old.turns + result }
+        ensures owned { KeepsOwned self.old.machine.pages self.new.machine.pages }
+        ensures back { ComesBack self.new.config self.new.machine bank.old bank.new }
+        ensures stop { self.new.stop ≡ self.old.stop }
+        ensures same { IsQuietGuest self.old self.new }
+    {
+        self.make_several_turns(bank, apart, most)
+    }
+
     /// Counts instructions and their turns, up to the watched count.
     fn count_turns(&mut self, made: u32)
         requires { self.old.count + made ≤ self.old.watch }

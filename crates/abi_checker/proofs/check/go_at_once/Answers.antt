@@ -1,5 +1,5 @@
 use Rattle.std.proofs.Common.{◌∙◌, sym}
-use Rattle.abi_checker.proofs.AtOnce.{far_first, far_over, not_over_now, round_followed, round_quiet, round_smaller}
+use Rattle.abi_checker.proofs.AtOnce.{far_first, far_over, not_over_now, round_followed, round_passes, round_quiet, round_smaller}
 use Rattle.abi_checker.proofs.AtOnce.{round_somewhere, round_stays}
 use Rattle.abi_checker.proofs.check.go_at_once.Goals as goal
 
@@ -61,6 +61,29 @@ pub returns-then-is_some-clause-goes : goal.returns-then-is_some-clause-goes
 returns-then-is_some-clause-goes c =
     far_over c.args.context.now c.rounds.context c.advance_several-made.new.self c.min.result c.advance_several-made.result
     c.rounds.invariant.far c.advance_several-made.ensures
+
+pub rounds-smaller-then-passes : goal.rounds-smaller-then-passes
+rounds-smaller-then-passes c =
+    let far = c.rounds.invariant.far in
+    let first = c.requires.some in
+    round_smaller _ _ _ _ _ c.rounds.context first.ticket far.same.config far.same.thread c.rounds.watch
+    (c.rounds.invariant.followed first.journal first.ticket first.followed) c.advance_several-made.new.self
+    c.advance_several-made.result c.min.result c.count.result c.advance_several-made.ensures c.next_turns-next.new.self
+    c.next_turns-next.result c.count.ensures c.min.ensures c.next_turns-next.ensures.watched c.if-made-eq0.false
+
+pub rounds-preserved-then-passes : goal.rounds-preserved-then-passes
+rounds-preserved-then-passes c =
+    let far = c.rounds.invariant.far in
+    record {
+      far = far_over c.args.context.now c.rounds.context c.advance_several-made.new.self c.min.result c.advance_several-made.result far
+          c.advance_several-made.ensures;
+      followed = λ journal ticket h.
+          round_passes _ _ _ _ _ c.rounds.context ticket far.same.config far.same.thread c.rounds.watch
+          (c.rounds.invariant.followed journal ticket h) c.advance_several-made.new.self c.advance_several-made.result c.min.result
+          c.count.result c.advance_several-made.ensures c.next_turns-next.new.self c.next_turns-next.result c.count.ensures
+          c.min.ensures c.next_turns-next.ensures.watched c.next_turns-next.ensures.planned c.context_is_whole.ensures
+          c.if-made-eq0.false (c.passes.ensures.call c.if-passes.true) (c.passes.ensures.away c.if-passes.true);
+    }
 
 pub rounds-smaller : goal.rounds-smaller
 rounds-smaller c =

@@ -12,12 +12,12 @@ returns-then-is_owned c =
     let before = c.args.self.now in
     let old = before.guest in
     let bank = c.args.bank.now in
-    let new = c.make_several_turns.new.self in
-    let after = c.make_several_turns.new.bank in
-    let e = c.make_several_turns.ensures in
+    let new = c.make_many_turns.new.self in
+    let after = c.make_many_turns.new.bank in
+    let e = c.make_many_turns.ensures in
     let here : owns bank old.number ≡ true = sym c.is_owned.ensures ∙ c.if-is_owned.true in
     let there = owned_on bank after old.number new.number true e.back.same.owner e.same.number here in
-    let so = several_from_start old before.from_start false c.make_several_turns.result (held_state old bank) (held_state new after)
+    let so = several_from_start old before.from_start false c.make_many_turns.result (held_state old bank) (held_state new after)
     e.turns in
     record {
       turns = rw (here, there) so;
@@ -39,7 +39,7 @@ returns-then-is_owned c =
           run = λ _. run_same before.image old.config new.config old.number new.number old.journal.items new.journal.items
               (held_state new after) (held_state new after) old.stop new.stop e.same.config e.same.number e.same.journal refl e.stop
               (run_goes_by false before.image old.config old.number (held_state old bank) (held_state new after) old.journal.items old.stop
-              c.make_several_turns.result c.requires.runs (c.requires.on.run here) so);
+              c.make_many_turns.result c.requires.runs (c.requires.on.run here) so);
         };
         bank = e.back.same;
         apart = λ not_owned. let clash = sym here ∙ not_owned in cc;
@@ -51,7 +51,7 @@ returns-else-is_owned c =
     let before = c.args.self.now in
     let old = before.guest in
     let bank = c.args.bank.now in
-    let made = c.make_several_turns-else-is_owned in
+    let made = c.make_many_turns-else-is_owned in
     let new = made.new.self in
     let e = made.ensures in
     let here : owns bank old.number ≡ false = sym c.is_owned.ensures ∙ c.if-is_owned.false in
@@ -83,7 +83,7 @@ pub invariant_of-self-else-is_owned : goal.invariant_of-self-else-is_owned
 invariant_of-self-else-is_owned c =
     let before = c.args.self.now in
     let old = before.guest in
-    let made = c.make_several_turns-else-is_owned in
+    let made = c.make_many_turns-else-is_owned in
     let new = made.new.self in
     let e = made.ensures in
     record {
