@@ -29,7 +29,7 @@ use Rattle.command_lines.specs.ReportLines.{difference_lines}
 use Rattle.smemu.specs.Checkpoints.{IsCheckpointOf}
 use Rattle.report_compare.specs.DifferLines.{parting_line}
 use Rattle.smemu.specs.Replay.{text_in, text_of, DiffersSo, EndsAsSaid, IsBlockIn, IsReplayOf}
-use Rattle.smemu.specs.Resume.{rest_of, rest_text, IsRestIn, IsResumeOf, RestDiffers, RestEnds}
+use Rattle.smemu.specs.Resume.{rest_of, IsRestIn, IsResumeOf, RestDiffers, RestEnds}
 use Rattle.smemu_laws.proofs.GoesOn.{below_budget, budget_kept}
 use Rattle.smemu_laws.proofs.OneAnswer.{one_block, same_said}
 use Rattle.smemu_laws.proofs.OneResume.{one_told, told, Told}

@@ -1,25 +1,21 @@
 -- A checkpoint that a report reads has few bytes, so it is accepted as one.
-use Rattle.std.proofs.Common.{◌≡◌, ℕ, zero, suc, ◌+◌, ◌*◌, ◌/◌, ◌≤◌, ◌++◌, Bool, true, false, cond, List, [], ◌∷◌, length, None, refl}
-use Rattle.std.proofs.Common.{ap, sym, ◌∙◌}
-use Rattle.std.proofs.Common.{subst, arith, length-append}
+use Rattle.std.proofs.Common.{◌≡◌, ℕ, zero, suc, ◌+◌, ◌*◌, ◌/◌, ◌≤◌, ◌++◌, Bool, true, false, cond, List, [], ◌∷◌, length, None}
+use Rattle.std.proofs.Common.{ap, ◌∙◌}
+use Rattle.std.proofs.Common.{arith, length-append}
 use Rattle.std.specs.Prelude.{◌==◌, ◌%◌, nat_le, nat_lt, option_map, Some}
 use Rattle.std.specs.List.{concat}
 use Rattle.std.proofs.lemmas.Bool.{cond_both}
 use Rattle.std.proofs.lemmas.Bool.Decides.{nat_tests}
 use Rattle.std.proofs.Math.Nat.{suc-mul}
 use Rattle.sm_types.specs.Length.{bits_of}
-use Rattle.sm_types.specs.Options.{numbers_of}
-use Rattle.sm_types.specs.declared.config.Config.{Config}
 use Rattle.sm_types.specs.declared.length.VecLen.{VecLen}
 use Rattle.sm_types.specs.declared.length.VecLen.TheVariants.{Bits128, Bits256, Bits512, Bits1024, Bits2048}
-use Rattle.sm_types.specs.declared.numbers.Numbers.{Numbers}
 use Rattle.field_table.specs.Rows.{fields, number, repeated, said}
 use Rattle.field_table.specs.Table.{End, Field, IsFilled, Table}
 use Rattle.field_table.proofs.Tables.{filled_reads}
 use Rattle.report_reader.specs.Report.{Report}
 use Rattle.kernel_contexts.specs.State.{State}
 use Rattle.ckpt_fields.specs.Rows.{array_size, bad_field, checkpoint_fault, checkpoint_table, first_rows, from_handlers, from_output}
-use Rattle.ckpt_fields.specs.Rows.{from_registers}
 use Rattle.ckpt_fields.specs.Rows.{from_system, from_thread, from_vectors, handler_row, handlers_of, length_for, options_rows, output_rows}
 use Rattle.ckpt_fields.specs.Rows.{page_row, pages_of, system_rows, thread_rows, vector_rows}
 use Rattle.ckpt_fields.specs.Rows as ckpt
