@@ -147,10 +147,45 @@ def within_others(last):
         data=block() + bytes(240) + block(buffer=BUFFER + 512))
 
 
-def moved(to_end):
+def several_at_once(*between, last=(RET,), data=block()):
+    """Two calls at one place and with one SP, which come back in one state; the words between them are the callee's."""
+    return program(*SETS, movz(20, 2), "again", calls("callee"), *TAIL, *EXIT, "callee", subs(20, 20, 1), to("last", EQ), *between, to("again"), "last", *last, data=data)
+
+
+def returns_at_once():
+    """Calls that come back in one state: all lawful, none, the first alone, or the second alone."""
+    other, two = [*at(19, BLOCK + 256), SET_BLOCK], block() + bytes(240) + block(buffer=BUFFER + 512)
+    yield "two-return-at-once", several_at_once()
+    yield "two-return-at-once-and-lose", several_at_once(last=[SMSTOP_ZA, RET])
+    yield "second-of-two-at-once-is-lawful", several_at_once(*other, data=two)
+    yield "first-of-two-at-once-is-lawful", several_at_once(*other, last=[*at(19, BLOCK), SET_BLOCK, RET], data=two)
+
+
+def small_changes():
+    """Callees that change one vector of ZA and leave it on; polls before each instruction; runs whose last state is the return, or that after the call."""
+    for vector in (0, 1, 14, 15):
+        yield f"vector-{vector}-changes", calling(movz(12, vector), LOAD, RET)
+    yield "keeps-and-polls-before-each", calling(RET)
+    yield "loses-and-polls-before-each", calling(SMSTOP_ZA, RET)
+    yield "loses-in-its-last-state", shortest(SMSTOP_ZA, RET)
+    yield "ends-before-it-loses", shortest(SMSTOP_ZA, RET)
+    yield "ends-after-a-call-that-is-not-dormant", calling(RET, before=[SMSTOP_ZA])
+
+
+def moved(to_end, flags):
     """A program whose tail ends so many bytes before the end of a page; the rest of its text goes on there."""
     start = 0x401000 - to_end - 4 * (len(SETS) + 1 + len(TAIL))
-    return program(*SETS, calls("callee"), *TAIL, *EXIT, "callee", RET, place=start, flags=7)
+    return program(*SETS, calls("callee"), *TAIL, *EXIT, "callee", RET, place=start, flags=flags)
+
+
+def tail_in_data(*body):
+    """A program whose tail, with all behind it, stands in a page that can be read and not executed."""
+    front = [to("go"), "callee", *body, "go", *SETS, calls("callee")]
+    words = text_of(laid_out(*front, *TAIL, *EXIT, *ROUTINES))
+    size = 4 * sum(not isinstance(part, str) for part in front)
+    start = 0x401000 - size
+    return build([Segment(start, words[:size], flags=5), Segment(0x401000, words[size:], flags=4), Segment(BLOCK, block(), flags=6, memory=8192),
+                  Segment(PATTERN, bytes(range(1, 65)), flags=4)], entry=start)[0]
 
 
 # ldr w9, [x10]; str w9, [x10]; str w11, [x10]
@@ -160,7 +195,10 @@ LOADS, STORES, STORES_OTHER = 0xB9400149, 0xB9000149, 0xB900014B
 def words():
     """Tails at the end of a page, and words that change after the call."""
     for to_end in (0, 4, 8, 12, 16, 20, 24, 28):
-        yield f"tail-{to_end}-before-a-page-end", moved(to_end)
+        yield f"tail-{to_end}-before-a-page-end", moved(to_end, 7)
+        yield f"tail-{to_end}-before-a-fixed-page-end", moved(to_end, 5)
+    yield "tail-that-cannot-be-executed", tail_in_data(RET)
+    yield "tail-that-cannot-be-executed-and-loses", tail_in_data(SMSTOP_ZA, RET)
     tail_at = (0x1000000A, "tail")
     changes = {"tail": "tail", "routine": "restore", "disable": "disable"}
     for name, place in changes.items():
@@ -172,7 +210,7 @@ def words():
 
 
 def programs():
-    for kind in (yes_and_no, undormant, depths, returns, words):
+    for kind in (yes_and_no, undormant, depths, returns, returns_at_once, small_changes, words):
         yield from kind()
 
 
@@ -190,6 +228,11 @@ def of_threads():
 
 def own_options(name):
     """The slice of a program with a handler: the signal comes while the callee, or the handler's, is under way. The shortest ones run at the usual length."""
+    ends = {"loses-in-its-last-state": 6, "ends-before-it-loses": 5, "ends-after-a-call-that-is-not-dormant": len(SETS) + 2}
+    if name in ends:
+        return {"svl": 256 if "loses" in name else 128, "budget": ends[name]}
+    if "polls-before-each" in name:
+        return {"slice": 1}
     return {"slice": 60} if "handler" in name or "depth" in name else {"svl": 256} if "shortest" in name else {}
 
 
@@ -197,8 +240,9 @@ def abi_rows(contents, lazy_names):
     """The programs and their reports by names, and the list; of the programs of lazy.py the files are there."""
     files, reports, lines = {}, {}, []
     for name, file in programs():
+        options = {**OPTIONS, "budget": 20_000, **own_options(name)}
         name = f"abi-{name}"
-        files[name], reports[f"{name}.report"] = file, report(file, **{**OPTIONS, **own_options(name)}, budget=20_000)
+        files[name], reports[f"{name}.report"] = file, report(file, **options)
     checks = [(name, file, f"{name}.report", reports[f"{name}.report"].encode(), 0) for name, file in files.items()]
     for name, file, threads in of_threads():
         name = f"abi-{name}"
