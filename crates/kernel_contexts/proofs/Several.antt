@@ -72,23 +72,23 @@ module _ (config : Config) (thread events watch : ℕ) (s : State) (h : IsWatche
       (no_delivery config t watch here low))
       ∙ kept_no apart (needs_bank before) (is_call_at before) _ kept (sym (call_told (vector_bytes config.vl) before) ∙ ap is_calls e)
 
-  pub executed_goes : (apart : Bool) (n : ℕ) (core : ProcessorState) → s.count + n ≤ watch
-      → AreExecuted apart (vector_bytes config.vl) n s.core core → GoesApart apart config thread events n s (counted_by n s core)
-  executed_goes apart zero core l e =
+  pub executed_goes : (halts : ℕ → ℕ → Bool) (apart : Bool) (n : ℕ) (core : ProcessorState) → s.count + n ≤ watch
+      → AreExecuted halts apart (vector_bytes config.vl) n s.core core → GoesApart apart config thread events n s (counted_by n s core)
+  executed_goes halts apart zero core l e =
       let none : s.count + 0 ≡ s.count = omega arith in
       let still : s.turns + 0 ≡ s.turns = omega arith in
       λ i. record s { core = e i; count = none i; turns = still i }
-  executed_goes apart (suc n) core l e = (
+  executed_goes halts apart (suc n) core l e = (
     counted_by n s e.0,
-    executed_goes apart n e.0 (omega (arith, l)) e.1,
+    executed_goes halts apart n e.0 (omega (arith, l)) e.1,
     one_executed n e.0 core l e.2,
     one_unneeded apart n e.0 core l e.2 e.3,
   )
 
 -- the same with VL of another name, from a core and a state that are known by their parts
-pub executed_as : (apart : Bool) (vl given : VecLen) (n : ℕ) (old new : ProcessorState) → given ≡ vl
-    → AreExecuted apart (vector_bytes vl) n old new → AreExecuted apart (vector_bytes given) n old new
-executed_as apart vl given n old new is h = subst (λ (l : VecLen). AreExecuted apart (vector_bytes l) n old new) (sym is) h
+pub executed_as : (halts : ℕ → ℕ → Bool) (apart : Bool) (vl given : VecLen) (n : ℕ) (old new : ProcessorState) → given ≡ vl
+    → AreExecuted halts apart (vector_bytes vl) n old new → AreExecuted halts apart (vector_bytes given) n old new
+executed_as halts apart vl given n old new is h = subst (λ (l : VecLen). AreExecuted halts apart (vector_bytes l) n old new) (sym is) h
 
 -- no port is asked
 pub nothing_refused : Refusals

@@ -19,7 +19,7 @@ use crate::guest::watch::{watch_after, watch_past};
 use crate::handlers::{Addresses, no_handlers};
 use crate::kernel::depth_limit;
 use crate::kernel_call::RETURN;
-use machine_step::{Decoder, Machine, StepEnd, write_streaming};
+use machine_step::{Decoder, Machine, Never, StepEnd, write_streaming};
 use mem_access::Bank;
 use paged_memory::{Image, Pages};
 use shared_region::Port;
@@ -251,7 +251,10 @@ impl GuestThread {
         let quiet = self.watch - self.count;
         let decoder = &mut self.decoder;
         let most = most.min(quiet);
-        let made = self.machine.step_several(decoder, bank, apart, most);
+        let made = self
+            .machine
+            .step_several(decoder, bank, &Never, apart, most)
+            .count;
         self.count_turns(made);
         made
     }

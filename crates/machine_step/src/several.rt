@@ -1,62 +1,161 @@
 //! Several instructions that are executed at once, one after the other, with no look at what else may be due.
-ghost use Rattle.std.specs.Prelude.{◌≡◌, ◌&&◌, false};
+ghost use Rattle.std.specs.Prelude.{◌≡◌, ◌&&◌, ◌%◌, ℕ, Bool, IsTrue, IfOk, IfErr, Some, false};
+ghost use Rattle.sm_types.specs.declared.insn.Insn.TheVariants as insn;
+ghost use Rattle.a64_encode.specs.Either.{instruction_of};
+ghost use Rattle.mem_access.specs.Transfer.{is_access};
+ghost use Rattle.machine_step.specs.ProcessorState.{VectorState};
+ghost use Rattle.machine_step.specs.Next.{Follows};
+ghost use Rattle.paged_memory.specs.Memory.{word_at};
 ghost use Rattle.paged_memory.specs.PageTable.{KeepsOwned};
 ghost use Rattle.mem_access.specs.Bank.{bank_state};
 ghost use Rattle.machine_step.specs.Effect.{effect_of};
 ghost use Rattle.machine_step.specs.Needs.{needs_bank};
-ghost use Rattle.machine_step.specs.Machine.{core_of, AttemptsOn, IsInMode, IsSameBank};
-ghost use Rattle.machine_step.specs.Several.{MakesSteps};
+ghost use Rattle.machine_step.specs.Machine.{core_of, AttemptsOn, IsInMode, IsSameBank, KeepsMode};
+ghost use Rattle.machine_step.specs.Several.{MakesSteps, HaltsAt, halts_in};
 
 use crate::at_once::Attempt;
-use crate::decoder::Decoder;
+use crate::decoder::{Decoded, Decoder};
+use crate::halts::Halts;
 use crate::machine::Machine;
+use crate::page_run::Next;
 use mem_access::Bank;
+use scalar_exec::Flat;
+use sm_types::{AccessSize, Address, Insn, LoadStore, LoadStoreOp};
+
+/// How many instructions were executed, and the word of the next one, where the run was told to halt before it.
+#[derive(Clone, Copy)]
+pub struct Made {
+    pub count: u32,
+    pub halt: Option<u32>,
+}
 
 impl Machine {
     /// Executes instructions one after the other, `most` at most, and tells how many. It ends before one that
-    /// is not executed at once, that may raise or ask, or for which memory is wanting; and, where `apart` says
-    /// that the machine is kept off the bank, before one that needs a bank. Owned pages stay owned; which come
-    /// to them, the single step says. It is laid into the function that makes turns by it.
+    /// it is told to halt before, whose word it gives; before one that is not executed at once, that may raise
+    /// or ask, or for which memory is wanting; and, where `apart` says that the machine is kept off the bank,
+    /// before one that needs a bank. Where it made fewer than `most` and gives no word, the next one is none to
+    /// halt before. Owned pages stay owned; which come to them, the single step says. It is laid into the
+    /// function that makes turns by it.
     #[inline(always)]
-    pub fn step_several(
+    pub fn step_several<H: Halts>(
         &mut self,
         decoder: &mut Decoder,
         bank: &mut Bank,
+        halts: &H,
         apart: bool,
         most: u32,
-    ) -> u32
+    ) -> Made
         requires { IsInMode bank.old self.old }
-        ensures { MakesSteps apart most self.old bank.old self.new bank.new result }
+        ensures { MakesSteps (H.halts halts.now) apart most self.old bank.old self.new bank.new result }
     {
         if apart {
-            self.make_steps(decoder, bank, true, most)
+            self.make_steps(decoder, bank, halts, true, most)
         } else {
-            self.make_steps(decoder, bank, false, most)
+            self.make_steps(decoder, bank, halts, false, most)
         }
     }
 
     /// The same, laid in twice: the loop of a machine that has the bank asks no instruction whether it needs
     /// one.
     #[inline(always)]
-    fn make_steps(&mut self, decoder: &mut Decoder, bank: &mut Bank, apart: bool, most: u32) -> u32
+    fn make_steps<H: Halts>(
+        &mut self,
+        decoder: &mut Decoder,
+        bank: &mut Bank,
+        halts: &H,
+        apart: bool,
+        most: u32,
+    ) -> Made
         requires { IsInMode bank.old self.old }
-        ensures { MakesSteps apart most self.old bank.old self.new bank.new result }
+        ensures { MakesSteps (H.halts halts.now) apart most self.old bank.old self.new bank.new result }
     {
         let mut done = 0;
         'steps: while done < most {
-            match self.step_at_once(decoder, bank, apart) {
-                Attempt::Done => done += 1,
-                Attempt::Waits => return done,
-                Attempt::Memory => return done,
+            let (made, known) = self.run_known(decoder, halts, most - done);
+            done += made;
+            if done == most {
+                return Made {
+                    count: done,
+                    halt: None,
+                };
+            }
+            match self.look(decoder, known, halts) {
+                Ok(next) => match self.step_next(decoder, next, bank, apart) {
+                    Attempt::Done => done += 1,
+                    Attempt::Waits => {
+                        return Made {
+                            count: done,
+                            halt: None,
+                        };
+                    }
+                    Attempt::Memory => {
+                        return Made {
+                            count: done,
+                            halt: None,
+                        };
+                    }
+                },
+                Err(word) => {
+                    return Made {
+                        count: done,
+                        halt: Some(word),
+                    };
+                }
             }
         }
-        done
+        Made {
+            count: done,
+            halt: None,
+        }
     }
 
-    /// Executes the instruction at PC at once, where it is one of these.
+    /// What is known of the instruction at PC after a look where nothing was; or its word, where it is one to
+    /// halt before.
     #[inline(always)]
-    fn step_at_once(&mut self, decoder: &mut Decoder, bank: &mut Bank, apart: bool) -> Attempt
-        requires { IsInMode bank.old self.old }
+    fn look<H: Halts>(&self, decoder: &Decoder, known: Next, halts: &H) -> Result<Next, u32>
+        requires next { Follows (H.halts halts.now) self.now.pages.memory decoder.now.places.items self.now.scalars
+            known }
+        ensures next { IfOk result (λ next. Follows (H.halts halts.now) self.now.pages.memory
+            decoder.now.places.items self.now.scalars next) }
+        ensures unhalted { IfOk result (λ next. halts_in (H.halts halts.now) self.now.pages.memory
+            self.now.scalars.pc ≡ false) }
+        ensures halted { IfErr result (λ word. HaltsAt (H.halts halts.now) self.now.pages.memory
+            self.now.scalars.pc word) }
+    {
+        match known {
+            Next::Unknown => {
+                let pc = self.scalars.pc;
+                match self.pages.fetch(pc) {
+                    Some(word) => {
+                        if halts.halts(pc, word) {
+                            return Err(word);
+                        }
+                        if pc % 4 != 0 {
+                            return Ok(Next::Unknown);
+                        }
+                        Ok(Next::Word(word))
+                    }
+                    None => Ok(Next::Unknown),
+                }
+            }
+            Next::Halts(word) => Err(word),
+            Next::Kept(place) => Ok(Next::Kept(place)),
+            Next::Word(word) => Ok(Next::Word(word)),
+        }
+    }
+
+    /// Executes the instruction at PC at once, where it is one of these and its word or its place is known.
+    #[inline(always)]
+    fn step_next(
+        &mut self,
+        decoder: &mut Decoder,
+        next: Next,
+        bank: &mut Bank,
+        apart: bool,
+    ) -> Attempt
+        requires next { (halts : ℕ → ℕ → Bool) × Follows halts self.old.pages.memory decoder.old.places.items
+            self.old.scalars next }
+        requires mode { IsInMode bank.old self.old }
         ensures effect { AttemptsOn effect_of self.old bank.old self.new bank.new result }
         ensures kept { result ≡ Attempt.Done
             → (apart && needs_bank (core_of self.old (bank_state bank.old))) ≡ false }
@@ -64,10 +163,80 @@ impl Machine {
         ensures same { IsSameBank bank.old bank.new }
         ensures mode { IsInMode bank.new self.new }
     {
-        let word = match self.fetch_word() {
-            Ok(word) => word,
-            Err(_) => return Attempt::Waits,
-        };
+        match next {
+            Next::Kept(place) => self.step_known(decoder.kept(place), bank, apart),
+            Next::Word(word) => self.step_word(decoder, word, bank, apart),
+            Next::Unknown => Attempt::Waits,
+            Next::Halts(_) => Attempt::Waits,
+        }
+    }
+
+    /// Executes the instruction at PC at once, where it is one of these; it is the kept one.
+    #[inline(always)]
+    fn step_known(&mut self, known: &Decoded, bank: &mut Bank, apart: bool) -> Attempt
+        requires aligned { self.old.scalars.pc % 4 ≡ 0 }
+        requires fetched { word_at self.old.pages.memory self.old.scalars.pc ≡ Some known.now.word }
+        requires mode { IsInMode bank.old self.old }
+        ensures effect { AttemptsOn effect_of self.old bank.old self.new bank.new result }
+        ensures kept { result ≡ Attempt.Done
+            → (apart && needs_bank (core_of self.old (bank_state bank.old))) ≡ false }
+        ensures owned { KeepsOwned self.old.pages self.new.pages }
+        ensures same { IsSameBank bank.old bank.new }
+        ensures mode { IsInMode bank.new self.new }
+    {
+        let insn = known.insn();
+        if self.wants(insn, apart) {
+            return Attempt::Waits;
+        }
+        match known.flat() {
+            Flat::StoreDoubleword { imm, rn, rt } => {
+                self.access_known(known.word(), &store_by(Address::Offset { imm }, rn, rt))
+            }
+            Flat::StoreNext { offset, rn, rt } => {
+                self.access_known(
+                    known.word(),
+                    &store_by(Address::PostIndex { offset }, rn, rt),
+                )
+            }
+            _ => self.attempt(known.word(), insn, bank),
+        }
+    }
+
+    /// Makes the access of a load or a store at once, which the word at PC means.
+    #[inline(always)]
+    fn access_known(&mut self, word: u32, insn: &Insn) -> Attempt
+        requires access { IsTrue (is_access insn.now) }
+        requires means { instruction_of word ≡ Some insn.now }
+        requires aligned { self.old.scalars.pc % 4 ≡ 0 }
+        requires fetched { word_at self.old.pages.memory self.old.scalars.pc ≡ Some word }
+        ensures effect { (bank : Bank) → AttemptsOn effect_of self.old bank self.new bank result }
+        ensures kept { (apart : Bool) (bank : VectorState)
+            → (apart && needs_bank (core_of self.old bank)) ≡ false }
+        ensures owned { KeepsOwned self.old.pages self.new.pages }
+        ensures mode { KeepsMode self.old self.new }
+    {
+        self.access_at_once(insn)
+    }
+
+    /// Executes the instruction of the word at PC at once, where it is one of these.
+    #[inline(always)]
+    fn step_word(
+        &mut self,
+        decoder: &mut Decoder,
+        word: u32,
+        bank: &mut Bank,
+        apart: bool,
+    ) -> Attempt
+        requires aligned { self.old.scalars.pc % 4 ≡ 0 }
+        requires fetched { word_at self.old.pages.memory self.old.scalars.pc ≡ Some word }
+        requires mode { IsInMode bank.old self.old }
+        ensures effect { AttemptsOn effect_of self.old bank.old self.new bank.new result }
+        ensures kept { result ≡ Attempt.Done
+            → (apart && needs_bank (core_of self.old (bank_state bank.old))) ≡ false }
+        ensures owned { KeepsOwned self.old.pages self.new.pages }
+        ensures same { IsSameBank bank.old bank.new }
+        ensures mode { IsInMode bank.new self.new }
+    {
         let known = decoder.place(self.scalars.pc);
         let Some(insn) = known.instruction(word) else {
             return Attempt::Waits;
@@ -77,4 +246,24 @@ impl Machine {
         }
         self.execute_at_once(word, insn, bank)
     }
+}
+
+/// Stores 8 bytes.
+#[inline(always)]
+fn store_by(address: Address, rn: u8, rt: u8) -> Insn
+    ensures { result ≡ insn.LoadStore (record {
+      op = LoadStoreOp.Store;
+      size = AccessSize.Doubleword;
+      address = address;
+      rn = rn;
+      rt = rt;
+    }) }
+{
+    Insn::LoadStore(LoadStore {
+        op: LoadStoreOp::Store,
+        size: AccessSize::Doubleword,
+        address,
+        rn,
+        rt,
+    })
 }

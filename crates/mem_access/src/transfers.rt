@@ -86,6 +86,22 @@ fn transfer_load_store(x: &LoadStore, s: &mut Scalars, pages: &mut Pages) -> Res
     }
 }
 
+/// A load of one register, which changes no page.
+#[inline(always)]
+pub fn load_one(x: &LoadStore, s: &mut Scalars, pages: &Pages) -> Result<(), AccessStop>
+    requires fields { IsLoadStore x.now }
+    requires load { IsTrue (is_load x.now.op) }
+    ensures { Transfers (transfer_fault (Insn.LoadStore x.now) s.old pages.now.memory)
+        (after_access (Insn.LoadStore x.now) s.old pages.now.memory)
+        (contents_of s.old pages.now) (contents_of s.new pages.now) result }
+{
+    let access = load_store_access(x, s);
+    match place_fault(&access, s) {
+        Some(exception) => Err(AccessStop::Raise(exception)),
+        None => load(x, access.address, s, pages),
+    }
+}
+
 /// Loads a register from beside the program counter.
 #[inline]
 #[tactic(auto, unfolding(crate::specs::Runs::after_load_literal))]

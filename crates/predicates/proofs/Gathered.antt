@@ -59,7 +59,7 @@ all_lowest H = refl
 all_lowest S = refl
 all_lowest D = refl
 
-lowest : (size : Size) (k : ℕ) → k < 8 → (element_bits size / 2 ^ k % 2 == 1) ≡ (k % bytes_in size == 0)
+pub lowest : (size : Size) (k : ℕ) → k < 8 → (element_bits size / 2 ^ k % 2 == 1) ≡ (k % bytes_in size == 0)
 unfolding lowest_at
 lowest size k below = same _ _ (all_below-at (lowest_at size) 8 k (all_lowest size) below)
 
@@ -72,7 +72,7 @@ both (suc (suc x)) y a b = absurd (omega arith)
 both zero (suc (suc y)) a b = absurd (omega arith)
 both (suc zero) (suc (suc y)) a b = absurd (omega arith)
 
-joined_bit : (a b k : ℕ) → (bit_at (bit_and a b) k == 1) ≡ ((bit_at a k == 1) && (bit_at b k == 1))
+pub joined_bit : (a b k : ℕ) → (bit_at (bit_and a b) k == 1) ≡ ((bit_at a k == 1) && (bit_at b k == 1))
 joined_bit a b k = ap (λ n. n == 1) (bit_at_and a b k) ∙ both (bit_at a k) (bit_at b k) (bit_at-lt a k) (bit_at-lt b k)
 
 -- the bits of the first n bytes are those of active elements that are marked
@@ -80,7 +80,7 @@ abbrev pub AreGatheredTo : Size → List ℕ → List ℕ → List ℕ → ℕ �
 AreGatheredTo size marks pg pd n = (j : ℕ) → j < 8 * n → bit_of pd j ≡
     ((j % bytes_in size == 0) && (bit_of pg j && (slice_index marks j == 255)))
 
-in_element : (size : Size) (i k : ℕ) → (8 * i + k) % bytes_in size ≡ k % bytes_in size
+pub in_element : (size : Size) (i k : ℕ) → (8 * i + k) % bytes_in size ≡ k % bytes_in size
 in_element B i k = omega arith
 in_element H i k = omega arith
 in_element S i k = omega arith

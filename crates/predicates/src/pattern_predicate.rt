@@ -1,26 +1,56 @@
 //! Predicates of a pattern, and predicates without true elements.
-ghost use Rattle.std.specs.Prelude.{◌≡◌, ◌*◌, ◌≤◌, nat_lt, length};
+ghost use Rattle.std.specs.Prelude.{◌≡◌, ℕ, ◌+◌, ◌*◌, ◌/◌, ◌%◌, ◌^◌, ◌<◌, ◌≤◌, ◌==◌, nat_lt, min, length};
+ghost use Rattle.vector_elements.specs.Numbers.{bytes_in};
+ghost use Rattle.predicates.specs.Predicates.{predicate_of};
 ghost use Rattle.predicates.specs.Logical.{pattern_predicate, no_elements};
 
 use crate::pattern::pattern_count;
-use crate::truths::{Truth, put_truths};
-use vector_elements::Size;
+use sve_vectors::truths_tell_bytes;
+use vector_elements::{Size, element_bits};
 
-/// The elements at places below a number.
-#[derive(Clone, Copy)]
-pub struct Below {
-    pub limit: u64,
+/// The byte of which so many of the lowest bits are set, and no other.
+#[inline(always)]
+fn low_ones(count: u64) -> u8
+    requires { count ≤ 8 }
+    ensures { (k : ℕ) → k < 8 → (result / 2 ^ k % 2 == 1) ≡ nat_lt k count }
+{
+    let ones = [0u8, 1, 3, 7, 15, 31, 63, 127, 255];
+    ones[count as usize]
 }
 
-impl Truth for Below {
-    ghost can = { λ s size i. Unit };
+/// How many bits of byte `i` of a predicate come before a bit.
+#[inline(always)]
+fn bits_before(end: u64, i: usize) -> u64
+    requires { i < 32 }
+    ensures few { result ≤ 8 }
+    ensures value { (k : ℕ) → k < 8 → nat_lt k result ≡ nat_lt (8 * i + k) end }
+{
+    end.saturating_sub(8 * i as u64).min(8)
+}
 
-    ghost gives = { λ s size i. nat_lt i s.limit };
+/// The bit after those of the first elements, so many or all.
+#[inline(always)]
+fn end_of(limit: u64, size: Size, bytes: usize) -> u64
+    requires { bytes ≤ 32 }
+    ensures { result ≡ min limit (8 * bytes / bytes_in size) * bytes_in size }
+{
+    let count = 8 * bytes / size.bytes();
+    limit.min(count as u64) * size.bytes() as u64
+}
 
-    #[inline(always)]
-    fn holds(&self, _size: Size, place: usize) -> bool {
-        (place as u64) < self.limit
+/// Makes the first elements true, so many or all, and the others false; a byte of the predicate at a time.
+#[inline(always)]
+pub fn put_below(limit: u64, size: Size, pd: &mut [u8])
+    requires { length pd.old ≤ 32 }
+    ensures { pd.new ≡ predicate_of (bytes_in size) (length pd.old) (λ i. nat_lt i limit) }
+{
+    let bits = element_bits(size);
+    let end = end_of(limit, size, pd.len());
+    for i in 0..pd.len() {
+        let ones = low_ones(bits_before(end, i));
+        pd[i] = bits & ones;
     }
+    truths_tell_bytes(pd);
 }
 
 /// Makes the first elements true, as many as the pattern names. Source: DDI 0487, C8.2, PTRUE.
@@ -31,7 +61,7 @@ pub fn predicate_true(size: Size, pattern: u8, pd: &mut [u8])
 {
     let count = 8 * pd.len() / size.bytes();
     let limit = pattern_count(pattern, count as u64);
-    put_truths(&Below { limit }, size, pd);
+    put_below(limit, size, pd);
 }
 
 /// Makes all elements false. Source: DDI 0487, C8.2, PFALSE.
@@ -40,5 +70,5 @@ pub fn predicate_false(pd: &mut [u8])
     requires { length pd.old ≤ 32 }
     ensures { pd.new ≡ no_elements (length pd.old) }
 {
-    put_truths(&Below { limit: 0 }, Size::B, pd);
+    put_below(0, Size::B, pd);
 }

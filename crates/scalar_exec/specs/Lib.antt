@@ -7,3 +7,4 @@ pub mod Conditional
 pub mod Branches
 pub mod Sources
 pub mod Step
+pub mod Flat

@@ -8,6 +8,7 @@ mod branches;
 mod conditional;
 mod exec;
 mod fields;
+mod flat;
 mod logic;
 mod moves;
 mod multiply;
@@ -18,5 +19,6 @@ mod sums;
 
 pub use branches::{address_at, branch_target};
 pub use exec::{Flow, exec_scalar};
+pub use flat::{Flat, exec_flat, exec_next, flatten};
 pub use operands::{extend, extend_sign};
 pub use registers::{next_address, read_x, read_x_or_sp, write_flags, write_x, write_x_or_sp};

@@ -11,7 +11,7 @@ use bit_ops::{Nzcv, bit_mask};
 use sm_types::{Logical, LogicalImmediate, LogicalRegister, Scalars};
 
 /// The operation, bit by bit.
-#[inline]
+#[inline(always)]
 #[tactic(auto, unfolding(crate::specs::Logic::combined))]
 fn combine(op: Logical, a: u64, b: u64) -> u64
     ensures { result ≡ combined op a b }
@@ -25,7 +25,7 @@ fn combine(op: Logical, a: u64, b: u64) -> u64
 }
 
 /// The flags of a logical result.
-#[inline]
+#[inline(always)]
 #[tactic(auto, unfolding(crate::specs::Logic::logical_flags))]
 fn logical_flags(value: u64, wide: bool) -> Nzcv
     ensures { result ≡ logical_flags wide value }
@@ -40,7 +40,7 @@ fn logical_flags(value: u64, wide: bool) -> Nzcv
 }
 
 /// The result to a register and the flags.
-#[inline]
+#[inline(always)]
 #[tactic(auto, unfolding(crate::specs::Logic::logical_to_x))]
 fn write_result(s: &mut Scalars, op: Logical, wide: bool, d: u8, value: u64)
     requires { d < 32 }
@@ -57,7 +57,7 @@ fn write_result(s: &mut Scalars, op: Logical, wide: bool, d: u8, value: u64)
 }
 
 /// The result to a register, which may be SP where no flags are set.
-#[inline]
+#[inline(always)]
 #[tactic(auto, unfolding(crate::specs::Logic::logical_to_sp))]
 fn write_result_or_sp(s: &mut Scalars, op: Logical, wide: bool, d: u8, value: u64)
     requires { d < 32 }
@@ -71,7 +71,7 @@ fn write_result_or_sp(s: &mut Scalars, op: Logical, wide: bool, d: u8, value: u6
 }
 
 /// The second operand: shifted, and then inverted where the instruction says so.
-#[inline]
+#[inline(always)]
 fn operand(s: &Scalars, x: &LogicalRegister) -> u64
     requires { IsLogicalRegister x.now }
     ensures { result ≡ logical_operand x.now s.now }
@@ -85,6 +85,7 @@ fn operand(s: &Scalars, x: &LogicalRegister) -> u64
 }
 
 /// Combines a register with a shifted register.
+#[inline(always)]
 #[tactic(auto, unfolding(crate::specs::Logic::logical_register))]
 pub fn exec_logical_register(s: &mut Scalars, x: &LogicalRegister)
     requires { IsLogicalRegister x.now }
@@ -96,7 +97,7 @@ pub fn exec_logical_register(s: &mut Scalars, x: &LogicalRegister)
 }
 
 /// The mask of the fields.
-#[inline]
+#[inline(always)]
 fn mask(x: &LogicalImmediate) -> u64
     requires { IsLogicalImmediate x.now }
     ensures { result ≡ mask_of x.now.n x.now.imms x.now.immr x.now.wide }

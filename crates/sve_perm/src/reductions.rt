@@ -2,6 +2,7 @@
 ghost use Rattle.std.specs.Prelude.{◌≡◌, ℕ, ◌+◌, ◌*◌, ◌%◌, ◌≤◌, ◌<◌, List, [], ◌∷◌, ◌++◌, if◌then◌else◌};
 ghost use Rattle.std.specs.Prelude.{length};
 ghost use Rattle.vector_elements.specs.declared.size.Size.{Size as ElementSize};
+ghost use Rattle.vector_elements.specs.Active.{AreActive};
 ghost use Rattle.vector_elements.specs.Numbers.{bytes_in, range_of};
 ghost use Rattle.sve_perm.specs.Active.{active_elements};
 ghost use Rattle.sve_perm.specs.Reduce.{result_size, reduced};
@@ -11,7 +12,7 @@ use crate::operations::{
     AllOnes, AnyOnes, Greatest, Least, OddOnes, SignedGreatest, SignedLeast, SignedSum, Sum,
 };
 use sm_types::ReductionOp;
-use vector_elements::{Size, bit, element};
+use vector_elements::{Size, are_active, bit, element};
 
 /// What some elements make together.
 pub trait Reduction: Copy {
@@ -51,9 +52,9 @@ fn join_where<R: Reduction>(reduction: R, size: Size, total: u64, x: u64, active
     }
 }
 
-/// What the active elements of a vector make together.
+/// What the active elements of a vector make together, one after the other.
 #[inline(always)]
-fn reduce_of_size<R: Reduction>(reduction: R, size: Size, pg: &[u8], n: &[u8]) -> u64
+fn reduce_active<R: Reduction>(reduction: R, size: Size, pg: &[u8], n: &[u8]) -> u64
     requires bits { length n.now ≡ 8 * length pg.now }
     ensures value { result ≡ R.gives reduction size (active_elements size pg.now n.now) }
     ensures fits { result < range_of (R.wide reduction size) }
@@ -65,6 +66,36 @@ fn reduce_of_size<R: Reduction>(reduction: R, size: Size, pg: &[u8], n: &[u8]) -
         total = join_where(reduction, size, total, x, bit(pg, width * i));
     }
     total
+}
+
+/// What all elements of a vector make together.
+#[inline(always)]
+fn reduce_all<R: Reduction>(reduction: R, size: Size, pg: &[u8], n: &[u8]) -> u64
+    requires active { AreActive size pg.now }
+    requires bits { length n.now ≡ 8 * length pg.now }
+    ensures value { result ≡ R.gives reduction size (active_elements size pg.now n.now) }
+    ensures fits { result < range_of (R.wide reduction size) }
+{
+    let mut total = reduction.neutral(size);
+    for i in 0..count(size, n) {
+        let x = element(n, size, i);
+        total = reduction.join(size, total, x);
+    }
+    total
+}
+
+/// What the active elements of a vector make together. Mostly all are active.
+#[inline(always)]
+fn reduce_of_size<R: Reduction>(reduction: R, size: Size, pg: &[u8], n: &[u8]) -> u64
+    requires bits { length n.now ≡ 8 * length pg.now }
+    ensures value { result ≡ R.gives reduction size (active_elements size pg.now n.now) }
+    ensures fits { result < range_of (R.wide reduction size) }
+{
+    if are_active(pg, size) {
+        reduce_all(reduction, size, pg, n)
+    } else {
+        reduce_active(reduction, size, pg, n)
+    }
 }
 
 /// The same, with a loop for each size.

@@ -1,4 +1,4 @@
-use Rattle.std.proofs.Common.{sym, ap, ◌∙◌, subst}
+use Rattle.std.proofs.Common.{false, sym, ap, ◌∙◌, subst}
 use Rattle.paged_memory.specs.PageTable.{KeepsOwned}
 use Rattle.mem_access.specs.Bank.{bank_state}
 use Rattle.machine_step.specs.Machine.{core_of}
@@ -18,11 +18,11 @@ returns-clause-turns c =
     let step = c.step_several-made in
     let v = bank_state step.new.bank in
     let s = held_state t bank in
-    subst (λ (u : State). GoesApart c.args.apart t.config t.number (guest_events t) step.result s u)
+    subst (λ (u : State). GoesApart c.args.apart t.config t.number (guest_events t) step.result.count s u)
     (sym (ap (with_vectors v) c.count_turns.ensures.state))
-    (executed_goes t.config t.number (guest_events t) t.watch s t.watched c.args.apart step.result (core_of step.new.self v)
-    (up_to c.args.most t.watch t.count step.result c.min-most.result t.watched.within c.min-most.ensures step.ensures.few)
-    (executed_as c.args.apart bank.vectors.vl t.config.vl step.result s.core (core_of step.new.self v) (sym c.requires.lengths.vl)
+    (executed_goes t.config t.number (guest_events t) t.watch s t.watched (λ pc word. false) c.args.apart step.result.count (core_of step.new.self v)
+    (up_to c.args.most t.watch t.count step.result.count c.min-most.result t.watched.within c.min-most.ensures step.ensures.few)
+    (executed_as (λ pc word. false) c.args.apart bank.vectors.vl t.config.vl step.result.count s.core (core_of step.new.self v) (sym c.requires.lengths.vl)
     step.ensures.executed))
 
 pub returns-clause-back : goal.returns-clause-back

@@ -1,9 +1,9 @@
-use Rattle.std.proofs.Common.{◌≡◌, ◌*◌, map, ap, ◌∙◌, sym, arith}
-use Rattle.vector_elements.specs.Elements.{element_of, bit_of}
+use Rattle.std.proofs.Common.{◌≡◌, ◌<◌, ◌*◌, ◌/◌, ℕ, true, length, map, ap, ◌∙◌, sym, subst, arith}
+use Rattle.vector_elements.specs.Elements.{element_of}
 use Rattle.vector_elements.specs.Numbers.{bytes_in}
 use Rattle.sve_perm.specs.Active.{active_places}
 use Rattle.sve_perm.proofs.Sums.{none-yet, elements-more, all-joined}
-use Rattle.sve_perm.proofs.reductions.reduce_of_size.Goals as goal
+use Rattle.sve_perm.proofs.reductions.reduce_all.Goals as goal
 
 pub loop-i-init : goal.loop-i-init
 loop-i-init g c = (
@@ -14,12 +14,14 @@ loop-i-init g c = (
 
 pub loop-i-preserved : goal.loop-i-preserved
 loop-i-preserved g c =
-    let on = c.bit.ensures ∙ ap (λ w. bit_of c.args.pg.now (w * c.loop-i.i)) c.bytes-width.ensures in
+    let below = subst (λ (k : ℕ). c.loop-i.i < k)
+    (c.count-i-end.ensures ∙ ap (λ (k : ℕ). k / bytes_in c.args.size) c.requires.bits) c.loop-i-test.true in
     let so_far = map (element_of (bytes_in c.args.size) c.args.n.now) (active_places c.args.size c.args.pg.now c.loop-i.i) in (
-      c.join_where-total.ensures.value so_far c.loop-i.invariant.0
+      c.join-total.ensures.value so_far c.loop-i.invariant.0
           ∙ ap (g.R.Reduction.gives c.args.reduction c.args.size)
-          (elements-more c.args.size c.args.pg.now c.args.n.now c.loop-i.i c.element-x.result c.bit.result c.element-x.ensures.value on),
-      c.join_where-total.ensures.fits,
+          (elements-more c.args.size c.args.pg.now c.args.n.now c.loop-i.i c.element-x.result true c.element-x.ensures.value
+          (sym (c.requires.active c.loop-i.i below))),
+      c.join-total.ensures.fits,
     )
 
 pub returns-clause-value : goal.returns-clause-value

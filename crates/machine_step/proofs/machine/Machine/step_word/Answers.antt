@@ -9,22 +9,20 @@ use Rattle.machine_step.proofs.Answers.{effect_of_word, needs_of_word}
 use Rattle.machine_step.proofs.Steps.{attempted_at}
 use Rattle.machine_step.proofs.Owned.{attempt_keeps}
 use Rattle.machine_step.specs.Owned.{writes_on}
-use Rattle.machine_step.proofs.machine.Machine.step_at_once.Goals as goal
+use Rattle.machine_step.proofs.machine.Machine.step_word.Goals as goal
 
 pub returns-clause-effect : goal.returns-clause-effect
 returns-clause-effect c =
-    let h = c.in-Ok.ensures in
-    attempted_at effect_of (effect_of_insn c.in-Ok.word c.in-Some.insn.now) c.args.self.now c.args.bank.now c.execute_at_once.new.self
+    attempted_at effect_of (effect_of_insn c.args.word c.in-Some.insn.now) c.args.self.now c.args.bank.now c.execute_at_once.new.self
     c.execute_at_once.new.bank c.execute_at_once.result
-    (effect_of_word (vector_bytes c.args.bank.now.vectors.vl) (core_of c.args.self.now (bank_state c.args.bank.now)) c.in-Ok.word
-    (Some c.in-Some.insn.now) h.0 h.1 c.in-Some.ensures)
+    (effect_of_word (vector_bytes c.args.bank.now.vectors.vl) (core_of c.args.self.now (bank_state c.args.bank.now)) c.args.word
+    (Some c.in-Some.insn.now) c.requires.aligned c.requires.fetched c.in-Some.ensures)
     c.execute_at_once.ensures.effect
 
 pub returns-clause-kept : goal.returns-clause-kept
 returns-clause-kept c done =
     let s = core_of c.args.self.now (bank_state c.args.bank.now) in
-    let h = c.in-Ok.ensures in
-    ap (λ b. c.args.apart && b) (needs_of_word s c.in-Ok.word (Some c.in-Some.insn.now) h.0 h.1 c.in-Some.ensures)
+    ap (λ b. c.args.apart && b) (needs_of_word s c.args.word (Some c.in-Some.insn.now) c.requires.aligned c.requires.fetched c.in-Some.ensures)
     ∙ sym (c.wants.ensures (bank_state c.args.bank.now)) ∙ c.if-wants.false
 
 pub returns-clause-owned : goal.returns-clause-owned

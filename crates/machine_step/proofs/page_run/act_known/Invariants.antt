@@ -1,0 +1,12 @@
+use Rattle.std.proofs.Common.{◌-◌, ◌≤◌}
+use Rattle.machine_step.specs.Computed.{AreComputed}
+use Rattle.machine_step.proofs.page_run.act_known.Given as goal
+
+abbrev pub invariant-turns : goal.invariant-turns
+invariant-turns g l = record {
+  computed : AreComputed (g.H.Halts.halts l.halts) l.pages.memory l.done l.initial.s l.s;
+  few : l.done ≤ l.most;
+}
+
+abbrev pub decreases-turns : goal.decreases-turns
+decreases-turns g l = l.most - l.done
