@@ -2,14 +2,12 @@
 use Rattle.std.proofs.Common.{◌≡◌, ℕ, suc, ◌+◌, ◌≤◌, Option, Some, None, false, subst, arith}
 use Rattle.kernel_contexts.specs.State.{State}
 use Rattle.abi_checker.specs.Near.{is_near}
-use Rattle.abi_checker.specs.Straight.{KeepsCode}
 use Rattle.abi_checker.specs.Whole.{IsWholeAt}
 use Rattle.abi_checker.specs.Watching.{IsPast}
 use Rattle.abi_checker.specs.Following.{IsUnderWay}
 use Rattle.abi_checker.specs.declared.abi.Abi.{Abi}
 use Rattle.abi_checker.specs.declared.abi.Abi.TheVariants.{Yes, No}
 use Rattle.abi_checker.specs.declared.watch.Watch.{Watch}
-use Rattle.abi_checker.proofs.Staying.{blocks_stay}
 use Rattle.abi_checker.proofs.Settled.{none_settles}
 use Rattle.abi_checker.proofs.Went.{went_uncalled}
 
@@ -24,13 +22,10 @@ told_later run n k watch (No count pc kind) h =
 -- no call comes back there, and the turn was no marked call
 pub passed : (run : ℕ → State) (n : ℕ) (watch : Watch) (s : State) (found : Option Abi) → IsUnderWay run n watch found
     → run (suc n) ≡ s → IsPast (run n) (run (suc n)) None → (run n).count ≤ (run (suc n)).count → IsWholeAt run (suc n)
-    → KeepsCode (run n).core.memory (run (suc n)).core.memory → is_near watch.near s.core.scalars.pc ≡ false
+    → is_near watch.near s.core.scalars.pc ≡ false
     → IsUnderWay run (suc n) watch found
-passed run n watch s None w e past grows whole code away =
-    went_uncalled run n watch s w e grows
-    (blocks_stay watch.near (run n).core.memory s.core.memory watch.blocks.known
-    (subst (λ (t : State). KeepsCode (run n).core.memory t.core.memory) e code) w.known)
-    watch (none_settles s watch w.near away) (λ c p r. whole) past
-passed run n watch s (Some abi) h e past grows whole code away =
+passed run n watch s None w e past grows whole away =
+    went_uncalled run n watch s w e grows watch (none_settles s watch w.near away) (λ c p r. whole) past
+passed run n watch s (Some abi) h e past grows whole away =
     let next : n + 1 ≡ suc n = omega arith in
     subst (λ i. IsUnderWay run i watch (Some abi)) next (told_later run n 1 watch abi h)

@@ -5,7 +5,7 @@ use Rattle.abi_checker.proofs.Passed.{passed}
 use Rattle.abi_checker.proofs.watch.Watch.tell.Goals as goal
 
 pub returns-then-passes : goal.returns-then-passes
-returns-then-passes c = λ run n way e past grows whole code.
+returns-then-passes c = λ run n way e past grows whole.
     passed run n c.args.self.now (state_of c.args.context.now) c.args.found way e
-    (subst (λ o. IsPast (run n) (run (suc n)) o) (c.passes.ensures.call c.if-passes.true) past) grows whole code
+    (subst (λ o. IsPast (run n) (run (suc n)) o) (c.passes.ensures.call c.if-passes.true) past) grows whole
     (c.passes.ensures.away c.if-passes.true)
