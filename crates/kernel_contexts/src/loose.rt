@@ -7,7 +7,7 @@ use crate::guest::GuestThread;
 use crate::handlers::handler_of;
 use crate::loose_bank::bank_of;
 use crate::loose_state::LooseState;
-use machine_step::Machine;
+use machine_step::{Halts, Machine, Made};
 use mem_access::Bank;
 use shared_region::Port;
 use sm_types::{Config, Memory};
@@ -59,12 +59,14 @@ impl Loose {
     }
 
     /// Makes turns of a thread that has not stopped, `most` at most, and tells how many, as
-    /// `Context::advance_several` does: each is an instruction that is counted and asks nothing.
-    pub fn advance_several(&mut self, most: u32) -> u32
+    /// `Context::advance_several` does: each is an instruction that is counted and asks nothing, and none that
+    /// it is told to halt before.
+    pub fn advance_several<H: Halts>(&mut self, halts: &H, most: u32) -> Made
         requires { loose_stop self.old ≡ None }
-        ensures { AdvancesSeveralLoose most self.old self.new result }
+        ensures { AdvancesSeveralLoose (H.halts halts.now) most self.old self.new result }
     {
-        self.guest.make_several_turns(&mut self.bank, false, most)
+        self.guest
+            .make_several_turns(&mut self.bank, halts, false, most)
     }
 
     /// The options of the thread's run.
