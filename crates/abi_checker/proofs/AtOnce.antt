@@ -2,13 +2,16 @@
 use Rattle.std.proofs.Common.{inl, inr, ◌≡◌, ℕ, zero, suc, ◌+◌, ◌-◌, ◌*◌, ◌<◌, ◌≤◌, ◌^◌, List, length, Option, Some, None, true, refl}
 use Rattle.std.proofs.Common.{ap, sym}
 use Rattle.std.proofs.Common.{◌∙◌, subst, arith, Bool, false}
-use Rattle.std.specs.Prelude.{is_some, min, IfSome, IfNone}
+use Rattle.std.specs.Prelude.{is_some, min, IfOk, IfSome, IfNone, MatchOption, Result, Ok, Err}
 use Rattle.sm_types.specs.declared.config.Config.{Config}
+use Rattle.sm_types.specs.declared.memory.Memory.{Memory}
 use Rattle.sm_types.specs.declared.shared_op.Event.{Event}
 use Rattle.shared_region.specs.Ports.{ReplayEvents}
 use Rattle.paged_memory.specs.Image.{Program}
+use Rattle.paged_memory.specs.Memory.{AddressSpace, word_at}
 use Rattle.sve_vectors.specs.Lengths.{vector_bytes}
 use Rattle.kernel_contexts.specs.State.{State}
+use Rattle.machine_step.specs.Several.{HaltsAt}
 use Rattle.machine_step.specs.declared.several.Made.{Made}
 use Rattle.kernel_contexts.specs.Several.{GoesApart, GoesBy, halts_before}
 use Rattle.kernel_contexts.specs.Run.{At, reach}
@@ -21,7 +24,7 @@ use Rattle.lone_runner.proofs.Several.{way_goes_on, gone_at, not_passed, up_to_c
 use Rattle.abi_checker.specs.Halting.{halts_for}
 use Rattle.abi_checker.specs.Checked.{states_of}
 use Rattle.abi_checker.specs.Whole.{IsWholeWith, IsWholeAt}
-use Rattle.abi_checker.specs.Watching.{IsWatched, IsNextCall, IsNoCall, IsPast}
+use Rattle.abi_checker.specs.Watching.{IsWatched, IsNextCall, IsNextWord, IsNoCall, IsPast}
 use Rattle.abi_checker.specs.Following.{GoesFar, IsFollowed, IsFollowedBySome, IsSomewhereWith, IsUnderWay}
 use Rattle.abi_checker.specs.declared.abi.Abi.{Abi}
 use Rattle.abi_checker.specs.declared.watch.Watch.{Watch}
@@ -165,6 +168,21 @@ far_over halts old new most end e =
       count = omega (arith, count);
     }
 
+-- the word that it was told to halt before stands there
+some_there : (halts : ℕ → ℕ → Bool) (m : AddressSpace) (pc : ℕ) (o : Option ℕ) (A : Type 0) → MatchOption o A (λ word. HaltsAt halts m pc word)
+    → IfSome o (λ word. word_at m pc ≡ Some word)
+some_there halts m pc None A h = tt
+some_there halts m pc (Some word) A h = h.0
+
+pub halted_there : (halts : ℕ → ℕ → Bool) (old new : Context) (most : ℕ) (end : Made) → AdvancesSeveral halts most old new end
+    → IfSome end.halt (λ word. IsNextWord (state_of new) word)
+halted_there halts old new most end e =
+    some_there halts (state_of new).core.memory (state_of new).core.scalars.pc end.halt _ e.halted
+
+pub if_ok : (r : Result (Option Abi) Memory) (P : Option Abi → Type 0) → ((x : Option Abi) → r ≡ Ok x → P x) → IfOk r P
+if_ok (Ok x) P f = f x refl
+if_ok (Err e) P f = tt
+
 -- ---- a round of turns, as many as are left up to the count at most
 
 one_more : (n : ℕ) → 0 < n → (k : ℕ) × (n ≡ suc k)
@@ -207,17 +225,6 @@ module _ (program : Program) (config : Config) (thread : ℕ) (journal : List Ev
       let here : h.way.turns + end.count ≡ h.way.turns = omega (arith, none) in
       round_over watch found (subst (λ i. IsUnderWay run i watch found) (sym here) h.told)
 
-  pub round_somewhere : told < 2 ^ 32 → IsSomewhereWith watch found
-  round_somewhere small = (
-    run,
-    h.way.turns,
-    h.told,
-    subst (λ i. i < 2 ^ 32)
-        (counts
-        ∙ sym (ap (λ (s : State). s.count) (now_state program config thread journal count old ticket same is watch found h)))
-        small,
-  )
-
   module _ (call : Option ℕ) (later : Watch) (now : Option Abi)
       (tells : (run : ℕ → State) (m : ℕ) → IsUnderWay run m watch found → run (suc m) ≡ state_of new
       → IsPast (run m) (run (suc m)) call → (run m).count ≤ (run (suc m)).count → IsWholeAt run (suc m)
@@ -253,7 +260,7 @@ pub quiet_told : (program : Program) (config : Config) (thread : ℕ) (journal :
     (tells : (run : ℕ → State) (m : ℕ) → IsWatched run m watch → run (suc m) ≡ state_of new
     → IsPast (run m) (run (suc m)) None → (run m).count ≤ (run (suc m)).count → IsWholeAt run (suc m)
     → IsUnderWay run (suc m) later now)
-    (whole : IsWholeWith (vector_bytes (config_of new).svl) (state_of new).core) → 0 < end.count
+    (whole : IsWholeWith (vector_bytes (config_of new).svl) (state_of new).core) → (end.count ≡ 0 → ⊥)
     → IsFollowed program config thread journal count new ticket later now
 quiet_told program config thread journal count old ticket same is watch h near alike new end told e counts later now tells whole some =
     let halts : ℕ → ℕ → Bool = λ pc word. halts_for near pc word in
@@ -270,7 +277,7 @@ quiet_told program config thread journal count old ticket same is watch h near a
     subst (λ (n : List Bool). halts_before (halts_for n) (run (h.way.turns + j)) ≡ false) alike
     (free_each program config thread journal h.way.turns used ticket.ahead (state_of old) h.way.at halts end.count (state_of new) own j
     l) in
-    let k = one_more end.count some in
+    let k = one_more end.count (omega (arith, some)) in
     let less : k.0 < end.count = omega (arith, k.1) in
     round_told program config thread journal count old ticket same is watch None h halts new end (count - told) told e counts
     (omega arith) None later now tells whole k.0 k.1
@@ -362,3 +369,39 @@ by_some program config thread journal count context ticket watch found e f g h =
   followed = moved program (image_of context) config (config_of context) thread (thread_of context) (sym e) (sym f) (sym g) journal
       count context ticket watch found h;
 }
+
+module _ (first old : Context) (far : GoesFar first old) (journal : List Event) (count : ℕ) (ticket : ReplayEvents) (watch : Watch)
+    (found : Option Abi)
+    (h : IsFollowed (image_of first) (config_of first) (thread_of first) journal count old ticket watch found) where
+  pub own_followed : IsFollowed (image_of old) (config_of old) (thread_of old) journal count old ticket watch found
+  own_followed =
+      moved (image_of first) (image_of old) (config_of first) (config_of old) (thread_of first) (thread_of old) (sym far.same.image)
+      (sym far.same.config) (sym far.same.thread) journal count old ticket watch found h
+
+  pub some_followed : IsFollowedBySome count old watch found
+  some_followed =
+      by_some (image_of first) (config_of first) (thread_of first) journal count old ticket watch found far.same.image far.same.config
+      far.same.thread h
+
+  pub first_followed : (new : Context) (later : Watch) (now : Option Abi)
+      → IsFollowed (image_of old) (config_of old) (thread_of old) journal count new ticket later now
+      → IsFollowed (image_of first) (config_of first) (thread_of first) journal count new ticket later now
+  first_followed new later now on =
+      moved (image_of old) (image_of first) (config_of old) (config_of first) (thread_of old) (thread_of first) far.same.image
+      far.same.config far.same.thread journal count new ticket later now on
+
+pub fewer : (count old mid new before now : ℕ) → old ≤ mid → before ≡ mid → now ≡ new → (now ≡ before → ⊥) → mid ≤ new → new ≤ count
+    → count - new < count - old
+fewer count old mid new before now up e f other on most = omega (arith, up, e, f, other, on, most)
+
+-- over turns at which nothing was told
+pub quiet_followed : (first old : Context) (far : GoesFar first old) (journal : List Event) (count : ℕ) (ticket : ReplayEvents)
+    (watch : Watch) (h : IsFollowed (image_of first) (config_of first) (thread_of first) journal count old ticket watch None)
+    (new : Context) (later : Watch) (found : Option Abi)
+    (on : IsFollowed (image_of old) (config_of old) (thread_of old) journal count old ticket watch None
+    → IsFollowed (image_of old) (config_of old) (thread_of old) journal count new ticket later found) → is_some found ≡ false
+    → IsFollowed (image_of first) (config_of first) (thread_of first) journal count new ticket later None
+quiet_followed first old far journal count ticket watch h new later found on quiet =
+    found_none (image_of first) (config_of first) (thread_of first) journal count new ticket later found quiet
+    (first_followed first old far journal count ticket watch None h new later found
+    (on (own_followed first old far journal count ticket watch None h)))

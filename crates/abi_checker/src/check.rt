@@ -57,15 +57,13 @@ fn go_to_halt(context: &mut Context, count: u32, watch: &mut Watch) -> Result<Pa
 {
     let left = count - context.count();
     let made = context.advance_several(&watch.halting(), left);
-    let mut found = None;
-    if made.count > 0 {
-        context_is_whole(context);
-        found = watch.tell(context, None, None)?;
+    let halt = made.halt;
+    if made.count == 0 {
+        return Ok(Pause { found: None, halt });
     }
-    Ok(Pause {
-        found,
-        halt: made.halt,
-    })
+    context_is_whole(context);
+    let found = watch.tell(context, None, None)?;
+    Ok(Pause { found, halt })
 }
 
 /// Makes the turn of the instruction of that word, which stands at PC, and tells of the state after it. None is
@@ -122,8 +120,11 @@ fn go_at_once(context: &mut Context, count: u32, watch: &mut Watch) -> Result<Op
         };
         let before = context.count();
         let found = make_halted(context, count, watch, word)?;
-        if found.is_some() || context.count() == before {
+        if found.is_some() {
             return Ok(found);
+        }
+        if context.count() == before {
+            return Ok(None);
         }
     }
 }
