@@ -262,9 +262,7 @@ impl GuestThread {
         let quiet = self.watch - self.count;
         let decoder = &mut self.decoder;
         let few = most.min(quiet);
-        let made = self
-            .machine
-            .step_several(decoder, bank, halts, apart, few);
+        let made = self.machine.step_several(decoder, bank, halts, apart, few);
         self.count_turns(made.count);
         let halt = self.halt_after(halts, made, few, most);
         Made {
