@@ -1,7 +1,7 @@
 -- Instructions that are executed before the watched count are turns that go on.
 use Rattle.std.proofs.Common.{◌≡◌, ℕ, zero, suc, min, ◌+◌, ◌-◌, ◌≤◌, ◌<◌, Bool, false, Option, None, List, [], length, ap, sym, ◌∙◌}
 use Rattle.std.proofs.Common.{subst, refl, arith}
-use Rattle.std.specs.Prelude.{◌&&◌, Some, MatchOption}
+use Rattle.std.specs.Prelude.{◌&&◌, Some}
 use Rattle.std.proofs.lemmas.Grind.{common_steps}
 use Rattle.std.proofs.lemmas.List.{append-nil}
 use Rattle.sm_types.specs.declared.config.Config.{Config}
@@ -121,12 +121,6 @@ pub halts_let_go : (halts : ℕ → ℕ → Bool) (apart : Bool) (config : Confi
 halts_let_go halts apart config thread events zero old new goes = goes
 halts_let_go halts apart config thread events (suc n) old new goes =
     (goes.0, halts_let_go halts apart config thread events n old goes.0 goes.1, goes.2, goes.3, never_halts goes.0)
-
--- a number of turns that is not the most, or the most that are wanted
-pub halted_else : {Rest Wanted : Type 0} {Halted : ℕ → Type 0} (halt : Option ℕ) → (Rest → Wanted) → MatchOption halt Rest Halted
-    → MatchOption halt Wanted Halted
-halted_else None f h = f h
-halted_else (Some word) f h = h
 
 -- the thread owns the bank still, or does not own it
 pub owned_on : (bank after : Bank) (thread number : ℕ) (owned : Bool) → after.owner ≡ bank.owner → number ≡ thread
