@@ -81,8 +81,10 @@ pub fn make_turns<P: Port>(
         match end_of_turn(turn) {
             None => {
                 turns += 1;
-                let rest = k - turns;
-                turns += resident.context.advance_several_on(bank, &Never, rest).count;
+                turns += resident
+                    .context
+                    .advance_several_on(bank, &Never, k - turns)
+                    .count;
             }
             Some(why) => {
                 let made = (resident.context.turns() - begun) as u32;

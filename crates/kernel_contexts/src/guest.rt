@@ -5,6 +5,7 @@ ghost use Rattle.kernel_contexts.specs.State.{start_scalars};
 ghost use Rattle.kernel_contexts.specs.HandlerTable.{handlers_of};
 ghost use Rattle.sm_types.specs.Options.{version_of};
 ghost use Rattle.sm_types.specs.declared.version.Version.TheVariants.{One};
+ghost use Rattle.sm_types.specs.declared.limits.TheConstants.{JOURNAL_LIMIT, OUTPUT_LIMIT};
 ghost use Rattle.kernel_contexts.specs.Kernel.{depth_limit};
 ghost use Rattle.kernel_contexts.specs.Watch.{IsWatched, AreOfSignals, waiting};
 
@@ -23,7 +24,7 @@ use machine_step::{Decoder, Halts, Machine, Made, StepEnd, write_streaming};
 use mem_access::Bank;
 use paged_memory::{Image, Pages};
 use shared_region::Port;
-use sm_types::{Config, Event, Memory, Scalars, Stop};
+use sm_types::{Config, Event, JOURNAL_LIMIT, Memory, Scalars, Stop};
 use std::alloc::Global;
 
 /// A guest thread: its machine, its options, and what the kernel keeps of it. Its functions take it through
@@ -63,12 +64,9 @@ pub struct GuestThread {
     ghost unmasked_at_first: { version_of config ≡ One → mask ≡ 0 },
     ghost depth_within: { depth ≤ depth_limit (version_of config) },
     ghost within_budget: { count ≤ config.budget },
-    ghost output_within: { vec_len output ≤ 1048576 },
-    ghost journal_within: { earlier + vec_len journal ≤ 262144 },
+    ghost output_within: { vec_len output ≤ OUTPUT_LIMIT },
+    ghost journal_within: { earlier + vec_len journal ≤ JOURNAL_LIMIT },
 }
-
-/// The events that a journal may hold.
-pub const JOURNAL_LIMIT: usize = 262_144;
 
 /// The registers of a thread before its first turn.
 #[tactic(auto, unfolding(crate::specs::State::start_scalars))]
@@ -108,7 +106,7 @@ impl GuestThread {
     ghost use Rattle.kernel_contexts.specs.Context.{Grows, HasFreePlace, GoesOrAsks};
     ghost use Rattle.kernel_contexts.specs.Wanting.{TurnWants, InstructionWants};
     ghost use Rattle.kernel_contexts.specs.Advance.{AdvancesGuest};
-    ghost use Rattle.paged_memory.specs.PageTable.{KeepsOwned};
+    ghost use Rattle.paged_memory.specs.PageTable.{KeepsOwned, owned_count};
     ghost use Rattle.kernel_contexts.specs.Owned.{TurnOwns, turn_writes, instruction_writes};
     ghost use Rattle.machine_step.specs.Several.{HaltsAt, HaltsBy, halts_in};
     ghost use Rattle.machine_step.specs.Step.{events_of};
@@ -130,6 +128,7 @@ impl GuestThread {
         ensures number { IfOk result (λ g. g.number ≡ number) }
         ensures journal { IfOk result (λ g. g.journal.items ≡ []) }
         ensures stop { IfOk result (λ g. g.stop ≡ None) }
+        ensures shared { IfOk result (λ g. owned_count g.machine.pages ≡ 0) }
         ensures whole { IfOk result IsFromStart }
     {
         let pages = Pages::from_image(alloc, image)?;
@@ -263,16 +262,30 @@ impl GuestThread {
         let quiet = self.watch - self.count;
         let decoder = &mut self.decoder;
         let few = most.min(quiet);
-        let made = self
-            .machine
-            .step_several(decoder, bank, halts, apart, few);
+        let made = self.machine.step_several(decoder, bank, halts, apart, few);
         self.count_turns(made.count);
-        if made.count < few || few == most {
-            return made;
-        }
+        let halt = self.halt_after(halts, made, few, most);
         Made {
             count: made.count,
-            halt: self.word_to_halt_before(halts),
+            halt,
+        }
+    }
+
+    /// The word at PC, where it is one to halt before, after turns of which `few` might be made, where up to
+    /// `most` were wanted.
+    #[inline(always)]
+    fn halt_after<H: Halts>(&self, halts: &H, made: Made, few: u32, most: u32) -> Option<u32>
+        requires { HaltsBy (H.halts halts.now) self.now.machine.pages.memory self.now.machine.scalars.pc few
+            made }
+        ensures { MatchOption result (made.count < most
+            → halts_in (H.halts halts.now) self.now.machine.pages.memory self.now.machine.scalars.pc ≡ false)
+            (λ word. HaltsAt (H.halts halts.now) self.now.machine.pages.memory self.now.machine.scalars.pc
+            word) }
+    {
+        if made.count < few || few == most {
+            made.halt
+        } else {
+            self.word_to_halt_before(halts)
         }
     }
 
@@ -444,7 +457,7 @@ impl GuestThread {
         if self.journal.reserve(1).is_err() {
             return self.lack(apart);
         }
-        let room = self.events() < JOURNAL_LIMIT;
+        let room = self.events() < JOURNAL_LIMIT as usize;
         let decoder = &mut self.decoder;
         match self
             .machine
@@ -519,7 +532,7 @@ impl GuestThread {
     fn go_on(&mut self, event: Option<Event>) -> Turn
         requires count { self.old.count < self.old.config.budget }
         requires room { vec_len self.old.journal < vec_capacity self.old.journal }
-        requires within { self.old.earlier + vec_len self.old.journal + length (events_of event) ≤ 262144 }
+        requires within { self.old.earlier + vec_len self.old.journal + length (events_of event) ≤ JOURNAL_LIMIT }
         ensures answer { result ≡ Turn.Ran }
         ensures state { bare_state self.new ≡ counted (bare_state self.old) (bare_state self.old).core }
         ensures machine { self.new.machine ≡ self.old.machine }

@@ -1,5 +1,6 @@
 //! The state of a guest thread that no run vouches for, and its turns.
 ghost use Rattle.std.specs.Prelude.{◌≡◌, ◌≤◌, length, None, IfOk, true};
+ghost use Rattle.sm_types.specs.declared.limits.TheConstants.{JOURNAL_LIMIT};
 ghost use Rattle.kernel_contexts.specs.SaveArea.{IsSaveArea};
 
 use crate::context::Turn;
@@ -86,7 +87,7 @@ impl Loose {
     /// The events that the thread used so far, from the start of its journal.
     pub fn events(&self) -> u32
         ensures value { result ≡ loose_events self.now }
-        ensures within { result ≤ 262144 }
+        ensures within { result ≤ JOURNAL_LIMIT }
     {
         self.guest.events() as u32
     }
