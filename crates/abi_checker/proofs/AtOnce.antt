@@ -4,7 +4,6 @@ use Rattle.std.proofs.Common.{ap, sym}
 use Rattle.std.proofs.Common.{◌∙◌, subst, arith, Bool, false}
 use Rattle.std.specs.Prelude.{is_some, min, IfOk, IfSome, IfNone, MatchOption, Result, Ok, Err}
 use Rattle.sm_types.specs.declared.config.Config.{Config}
-use Rattle.sm_types.specs.declared.memory.Memory.{Memory}
 use Rattle.sm_types.specs.declared.shared_op.Event.{Event}
 use Rattle.shared_region.specs.Ports.{ReplayEvents}
 use Rattle.paged_memory.specs.Image.{Program}
@@ -179,15 +178,15 @@ pub halted_there : (halts : ℕ → ℕ → Bool) (old new : Context) (most : �
 halted_there halts old new most end e =
     some_there halts (state_of new).core.memory (state_of new).core.scalars.pc end.halt _ e.halted
 
-pub if_ok : (r : Result (Option Abi) Memory) (P : Option Abi → Type 0) → ((x : Option Abi) → r ≡ Ok x → P x) → IfOk r P
+pub if_ok : {T E : Type 0} (r : Result T E) (P : T → Type 0) → ((x : T) → r ≡ Ok x → P x) → IfOk r P
 if_ok (Ok x) P f = f x refl
 if_ok (Err e) P f = tt
 
 -- ---- a round of turns, as many as are left up to the count at most
 
-one_more : (n : ℕ) → 0 < n → (k : ℕ) × (n ≡ suc k)
-one_more zero l = absurd (omega (arith, l))
-one_more (suc k) l = (k, refl)
+one_more : (n : ℕ) → (n ≡ 0 → ⊥) → (k : ℕ) × (n ≡ suc k)
+one_more zero some = absurd (some refl)
+one_more (suc k) some = (k, refl)
 
 none_of : (found : Option Abi) → is_some found ≡ false → found ≡ None
 none_of None e = refl
@@ -277,7 +276,7 @@ quiet_told program config thread journal count old ticket same is watch h near a
     subst (λ (n : List Bool). halts_before (halts_for n) (run (h.way.turns + j)) ≡ false) alike
     (free_each program config thread journal h.way.turns used ticket.ahead (state_of old) h.way.at halts end.count (state_of new) own j
     l) in
-    let k = one_more end.count (omega (arith, some)) in
+    let k = one_more end.count some in
     let less : k.0 < end.count = omega (arith, k.1) in
     round_told program config thread journal count old ticket same is watch None h halts new end (count - told) told e counts
     (omega arith) None later now tells whole k.0 k.1
@@ -305,7 +304,7 @@ one_told program config thread journal count old ticket same is watch h halts ne
     counted_turns program config thread journal count old ticket same is watch None h halts new end most told e counts
     (omega (arith, few)) in
     let made = e.few in
-    let k = one_more end.count (omega (arith, some)) in
+    let k = one_more end.count some in
     let first : here + k.0 ≡ here = omega (arith, k.1, made, few) in
     let less : k.0 < end.count = omega (arith, k.1) in
     let grows = counted.counts k.0 less in

@@ -1,6 +1,6 @@
 -- The marked calls of a run as far as the code has come, turn by turn.
 use Rattle.std.specs.Prelude.{◌≡◌, ◌⊎◌, ℕ, zero, suc, ◌+◌, ◌<◌, ◌≤◌, ◌^◌, ◌++◌, List, [], ◌∷◌, length, Bool, true, false}
-use Rattle.std.specs.Prelude.{Option, Some, None, not}
+use Rattle.std.specs.Prelude.{Option, Some, None, IfSome, not}
 use Rattle.std.specs.List.{All, filter}
 use Rattle.paged_memory.specs.Memory.{word_at}
 use Rattle.kernel_contexts.specs.State.{State}
@@ -56,6 +56,10 @@ pub record Settles (r : State) (old new : Watch) : Type 0 where
 pub record IsMarkedPast (p : Places) (s : State) (past : ℕ) : Type 0 where
   pub place : p.tail ≡ past
   pub mark : HasMark s.core.memory p
+
+-- there was no call, or one behind which there is none
+abbrev pub IsNoMarkPast : State → Option ℕ → Type 0
+IsNoMarkPast s past = IfSome past (λ at. (p : Places) → ¬ IsMarkedPast p s at)
 
 -- it was not marked, and the calls are those before
 pub record IsUnmarkedPast (s : State) (past : ℕ) (old new : Watch) : Type 0 where

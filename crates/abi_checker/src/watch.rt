@@ -11,7 +11,7 @@ ghost use Rattle.abi_checker.specs.declared.open_call.OpenCall.{OpenCall};
 
 use crate::abi::{Abi, AbiKind};
 use crate::halting::Halting;
-use crate::marks::mark_at;
+use crate::marks::{mark_at, may_be_marked};
 use crate::near::{SLOTS, slot_of, slots_of};
 use crate::open_call::OpenCall;
 use kernel_contexts::Context;
@@ -34,7 +34,7 @@ pub struct Watch {
 }
 
 impl Watch {
-    ghost use Rattle.abi_checker.specs.Watching.{AfterCall, IsPast, IsSomewhere, IsToldNext, IsWatched, Settles};
+    ghost use Rattle.abi_checker.specs.Watching.{AfterCall, IsNoMarkPast, IsPast, IsSomewhere, IsToldNext, IsWatched, Settles};
     ghost use Rattle.abi_checker.specs.Following.{IsUnderWay, IsSomewhereWith};
     ghost use Rattle.abi_checker.specs.Checked.{IsTold};
     ghost use Rattle.abi_checker.specs.Whole.{IsWholeAt};
@@ -218,12 +218,12 @@ impl Watch {
 
     /// Whether nothing is to be told: the turn was no marked call, and no call comes back there.
     #[inline]
-    pub fn passes(&self, context: &Context, past: Option<u64>) -> bool
-        ensures call { IsTrue result → past ≡ None }
+    fn passes(&self, context: &Context, past: Option<u64>) -> bool
+        ensures call { IsTrue result → IsNoMarkPast (state_of context.now) past }
         ensures away { IsTrue result
             → is_near self.now.near (state_of context.now).core.scalars.pc ≡ false }
     {
-        past.is_none() && !self.is_near(context.machine().scalars.pc)
+        !may_be_marked(context, past) && !self.is_near(context.machine().scalars.pc)
     }
 
     /// What is told of a run that is at its end.
