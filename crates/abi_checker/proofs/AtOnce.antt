@@ -1,5 +1,5 @@
 -- A thread that is followed over turns that are made at once.
-use Rattle.std.proofs.Common.{inl, inr, ◌≡◌, ℕ, zero, suc, ◌+◌, ◌-◌, ◌*◌, ◌<◌, ◌≤◌, ◌^◌, List, length, Option, Some, None, true, refl}
+use Rattle.std.proofs.Common.{inl, inr, ◌≡◌, ℕ, zero, suc, ◌+◌, ◌-◌, ◌<◌, ◌≤◌, List, length, Option, Some, None, true, refl}
 use Rattle.std.proofs.Common.{ap, sym}
 use Rattle.std.proofs.Common.{◌∙◌, subst, arith, Bool, false}
 use Rattle.std.specs.Prelude.{is_some, min, IfOk, IfSome, IfNone, MatchOption, Result, Ok, Err}
@@ -24,7 +24,7 @@ use Rattle.abi_checker.specs.Halting.{halts_for}
 use Rattle.abi_checker.specs.Checked.{states_of}
 use Rattle.abi_checker.specs.Whole.{IsWholeWith, IsWholeAt}
 use Rattle.abi_checker.specs.Watching.{IsWatched, IsNextCall, IsNextWord, IsNoCall, IsPast}
-use Rattle.abi_checker.specs.Following.{GoesFar, IsFollowed, IsFollowedBySome, IsSomewhereWith, IsUnderWay}
+use Rattle.abi_checker.specs.Following.{GoesFar, IsFollowed, IsFollowedBySome, IsUnderWay}
 use Rattle.abi_checker.specs.declared.abi.Abi.{Abi}
 use Rattle.abi_checker.specs.declared.watch.Watch.{Watch}
 use Rattle.abi_checker.proofs.Deliveries.{plain_over}
@@ -349,14 +349,6 @@ moved program other config own thread number e f g journal count context ticket 
     subst (λ (p : Program). IsFollowed p own number journal count context ticket watch found) e
     (subst (λ (k : Config). IsFollowed program k number journal count context ticket watch found) f
     (subst (λ (t : ℕ). IsFollowed program config t journal count context ticket watch found) g h))
-
--- fewer turns are left after one and more
-pub turns_left : (old mid new : Config) (before there after : ℕ) → mid ≡ old → new ≡ mid → there ≡ before + 1 → there ≤ 64 * mid.budget
-    → there ≤ after → 64 * new.budget - after < 64 * old.budget - before
-turns_left old mid new before there after same still one few more =
-    let first = ap (λ (k : Config). k.budget) same in
-    let second = ap (λ (k : Config). k.budget) still in
-    omega (arith, first, second, one, few, more)
 
 pub by_some : (program : Program) (config : Config) (thread : ℕ) (journal : List Event) (count : ℕ) (context : Context)
     (ticket : ReplayEvents) (watch : Watch) (found : Option Abi) → image_of context ≡ program → config_of context ≡ config

@@ -1,6 +1,5 @@
 use Rattle.std.proofs.Common.{ap, subst, suc, arith}
 use Rattle.std.specs.Prelude.{Ok}
-use Rattle.kernel_contexts.specs.State.{State}
 use Rattle.kernel_contexts.specs.Context.{state_of}
 use Rattle.abi_checker.specs.Watching.{IsPast, AfterCall, AreNear, IsToldNext}
 use Rattle.abi_checker.proofs.Went.{went_unlawful, went_uncalled, went_called, all_of_some, settled_few, both_ok}
