@@ -1,6 +1,6 @@
 -- Lists that begin alike, elements that pass a test, and parts of lists.
-use Rattle.std.proofs.Common.{◌≡◌, ℕ, zero, suc, ◌+◌, ◌<◌, ◌≤◌, ◌&&◌, Bool, true, false, cond, List, [], ◌∷◌, ◌++◌, length, map, take, drop, get_or, slice_get}
-use Rattle.std.proofs.Common.{Option, Some, None, find, bytes_eq, refl, sym, ap, ap₂, subst, ◌∙◌, arith, append-nil}
+use Rattle.std.proofs.Common.{◌≡◌, ℕ, zero, suc, ◌+◌, ◌<◌, ◌≤◌, ◌&&◌, Bool, true, false, cond, List, [], ◌∷◌, ◌++◌, length, map, take, drop}
+use Rattle.std.proofs.Common.{get_or, slice_get, Option, Some, None, find, bytes_eq, refl, sym, ap, ap₂, subst, ◌∙◌, arith, append-nil}
 use Rattle.std.proofs.lemmas.Bool.{and_parts}
 use Rattle.std.proofs.lemmas.Grind.{common_steps}
 use Rattle.std.proofs.lemmas.Option.{none-some, same_Some, slice_get-get_or}
@@ -45,7 +45,8 @@ list_all-get p [] i x e g = cc
 list_all-get p (y ∷ ys) zero x e g = let same : y ≡ x = cc in ap p (sym same) ∙ (and_parts (p y) (list_all p ys) e).0
 list_all-get p (y ∷ ys) (suc i) x e g = list_all-get p ys i x (and_parts (p y) (list_all p ys) e).1 g
 
-pub list_all-get_or : {A : Type 0} (p : A → Bool) (xs : List A) (i : ℕ) (d : A) → list_all p xs ≡ true → i < length xs → p (get_or xs i d) ≡ true
+pub list_all-get_or : {A : Type 0} (p : A → Bool) (xs : List A) (i : ℕ) (d : A) → list_all p xs ≡ true → i < length xs
+    → p (get_or xs i d) ≡ true
 list_all-get_or p xs i d e lt = list_all-get p xs i (get_or xs i d) e (slice_get-get_or xs i d lt)
 
 pub list_all-take : {A : Type 0} (p : A → Bool) (n : ℕ) (xs : List A) → list_all p xs ≡ true → list_all p (take n xs) ≡ true
