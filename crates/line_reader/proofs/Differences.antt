@@ -4,6 +4,7 @@ use Rattle.std.proofs.Common.{Some, None}
 use Rattle.std.specs.List.{concat}
 use Rattle.std.specs.Str.{bytes_eq}
 use Rattle.std.proofs.lemmas.Slice.Eq.{bytes_eq-Decides}
+use Rattle.plain_lemmas.proofs.Lists.{bytes_eq-self}
 use Rattle.line_reader.specs.Difference.{first_difference}
 use Rattle.line_reader.specs.Lines.{lines_of, onto_first, with_first}
 
@@ -16,9 +17,6 @@ none_of : (a b : List ℕ) → length a ≡ 0 → a ≡ []
 none_of [] b e = refl
 none_of (x ∷ xs) b e = cc
 
-same_bytes : (a : List ℕ) → bytes_eq a a ≡ true
-same_bytes a = (bytes_eq-Decides a a).1 refl
-
 other_bytes : (a b : List ℕ) → a ≢ b → bytes_eq a b ≡ false
 other_bytes a b d = elim (bytes_eq a b) as (λ t. bytes_eq a b ≡ t → t ≡ false) [
   | true ↦ λ is. absurd (d ((bytes_eq-Decides a b).0 is))
@@ -30,7 +28,7 @@ same_line : (line : ℕ) (a : List ℕ) (more others : List (List ℕ)) → (len
     → first_difference line (with_first a more) (with_first a others) ≡ first_difference (line + 1) more others
 unfolding first_difference
 same_line line [] more others some = absurd (some refl)
-same_line line (x ∷ xs) more others some = rw (same_bytes (x ∷ xs)) refl
+same_line line (x ∷ xs) more others some = rw (bytes_eq-self (x ∷ xs)) refl
 
 other_line : (line : ℕ) (a b : List ℕ) (more others : List (List ℕ)) → a ≢ b → (length a ≡ 0 → more ≡ []) → (length b ≡ 0 → others ≡ [])
     → first_difference line (with_first a more) (with_first b others) ≡ Some (record { line = line; first = a; second = b })
