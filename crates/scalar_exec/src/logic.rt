@@ -106,6 +106,7 @@ fn mask(x: &LogicalImmediate) -> u64
 }
 
 /// Combines a register with a mask.
+#[inline(always)]
 #[tactic(auto, unfolding(crate::specs::Logic::logical_immediate))]
 pub fn exec_logical_immediate(s: &mut Scalars, x: &LogicalImmediate)
     requires { IsLogicalImmediate x.now }
