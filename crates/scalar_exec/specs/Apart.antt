@@ -13,7 +13,7 @@ at_distance base distance s = record s { pc = (base + distance) % 2 ^ 64 }
 
 -- the instruction takes the registers from the one to the other, and PC from the one distance to the other
 abbrev pub Steps : Insn → ℕ → ℕ → ℕ → Scalars → Scalars → Type 0
-Steps it base distance next old new = at_distance base next new ≡ scalar_step it (at_distance base distance old)
+Steps it base at next old new = at_distance base next new ≡ scalar_step it (at_distance base at old)
 
 -- X30, which BLR alone sets
 abbrev pub linked_by : BranchRegisterOp → ℕ → Scalars → Scalars

@@ -13,7 +13,6 @@ use types.BranchRegisterOp.TheVariants.{Br, Blr, Ret}
 use types.PcRelativeOp.TheVariants.{Adr, Adrp}
 use types.LoadStoreOp.TheVariants.{Store, Load, LoadSignedTo64, LoadSignedTo32}
 use types.AccessSize.TheVariants.{Doubleword, Word, Halfword, Byte}
-use types.Address.TheVariants.{Offset, PostIndex}
 use types.PairOp.TheVariants.{Ldp, Stp}
 use types.Insn.TheVariants as insn
 use types.Condition.TheVariants as condition
@@ -21,9 +20,11 @@ use types.PairIndex.TheVariants as index
 use Rattle.sm_types.specs.declared.scalars.Scalars.{Scalars}
 use Rattle.a64_table.specs.Ranges.{IsInRow}
 use Rattle.scalar_exec.specs.Step.{is_scalar}
-use Rattle.scalar_exec.specs.Forms.{sum_immediate, sum_register, sum_shifted, sum_extended, logical, logical_shifted, masked}
-use Rattle.scalar_exec.specs.Forms.{halfword_move, field_move, selected, compared, compared_immediate, two_sources, product, long_product, high_product}
-use Rattle.scalar_exec.specs.Forms.{access_of, pair_of, pair_at}
+use Rattle.scalar_exec.specs.Forms.{sum_immediate, sum_register, sum_shifted, sum_extended, logical}
+use Rattle.scalar_exec.specs.Forms.{logical_shifted, masked, halfword_move, field_move, selected}
+use Rattle.scalar_exec.specs.Forms.{compared, compared_immediate, two_sources}
+use Rattle.scalar_exec.specs.Forms.{product, long_product, high_product}
+use Rattle.scalar_exec.specs.Forms.{offset_access, access_of, pair_of, pair_at}
 use Rattle.scalar_exec.specs.Apart.{Steps}
 use Rattle.scalar_exec.specs.declared.flat.Flat.{Flat}
 use Rattle.scalar_exec.specs.declared.flat.Flat.TheVariants as flat
@@ -141,41 +142,39 @@ abbrev pub is_plain_load : Insn → Bool
 is_plain_load (insn.LoadStore x) = is_loaded_by x.op
 is_plain_load other = false
 
--- the load or store of one that says all of one; else the instruction itself, where the flat one says that it
--- reads and writes scalar registers alone, or nothing
+-- the load or store, where the flat one says all of it; else the instruction itself, where the flat one says
+-- that it reads and writes scalar registers alone, or nothing
 abbrev pub flat_rest : Flat → Insn → Option Insn
-flat_rest (flat.LoadDoubleword imm rn rt) it = Some (access_of Load Doubleword (Offset imm) rn rt)
-flat_rest (flat.LoadWord imm rn rt) it = Some (access_of Load Word (Offset imm) rn rt)
-flat_rest (flat.LoadHalfword imm rn rt) it = Some (access_of Load Halfword (Offset imm) rn rt)
-flat_rest (flat.LoadByte imm rn rt) it = Some (access_of Load Byte (Offset imm) rn rt)
-flat_rest (flat.LoadSignedWord imm rn rt) it = Some (access_of LoadSignedTo64 Word (Offset imm) rn rt)
-flat_rest (flat.LoadSignedHalfword imm rn rt) it = Some (access_of LoadSignedTo64 Halfword (Offset imm) rn rt)
-flat_rest (flat.LoadSignedByte imm rn rt) it = Some (access_of LoadSignedTo64 Byte (Offset imm) rn rt)
-flat_rest (flat.NarrowLoadSignedHalfword imm rn rt) it = Some (access_of LoadSignedTo32 Halfword (Offset imm) rn rt)
-flat_rest (flat.NarrowLoadSignedByte imm rn rt) it = Some (access_of LoadSignedTo32 Byte (Offset imm) rn rt)
-flat_rest (flat.StoreDoubleword imm rn rt) it = Some (access_of Store Doubleword (Offset imm) rn rt)
-flat_rest (flat.StoreWord imm rn rt) it = Some (access_of Store Word (Offset imm) rn rt)
-flat_rest (flat.StoreHalfword imm rn rt) it = Some (access_of Store Halfword (Offset imm) rn rt)
-flat_rest (flat.StoreByte imm rn rt) it = Some (access_of Store Byte (Offset imm) rn rt)
-flat_rest (flat.LoadDoublewordAt rn rt address) it = Some (access_of Load Doubleword address rn rt)
-flat_rest (flat.LoadWordAt rn rt address) it = Some (access_of Load Word address rn rt)
-flat_rest (flat.LoadHalfwordAt rn rt address) it = Some (access_of Load Halfword address rn rt)
-flat_rest (flat.LoadByteAt rn rt address) it = Some (access_of Load Byte address rn rt)
-flat_rest (flat.LoadSignedWordAt rn rt address) it = Some (access_of LoadSignedTo64 Word address rn rt)
-flat_rest (flat.LoadSignedHalfwordAt rn rt address) it = Some (access_of LoadSignedTo64 Halfword address rn rt)
-flat_rest (flat.LoadSignedByteAt rn rt address) it = Some (access_of LoadSignedTo64 Byte address rn rt)
-flat_rest (flat.NarrowLoadSignedHalfwordAt rn rt address) it = Some (access_of LoadSignedTo32 Halfword address rn rt)
-flat_rest (flat.NarrowLoadSignedByteAt rn rt address) it = Some (access_of LoadSignedTo32 Byte address rn rt)
-flat_rest (flat.StoreDoublewordAt rn rt address) it = Some (access_of Store Doubleword address rn rt)
-flat_rest (flat.StoreWordAt rn rt address) it = Some (access_of Store Word address rn rt)
-flat_rest (flat.StoreHalfwordAt rn rt address) it = Some (access_of Store Halfword address rn rt)
-flat_rest (flat.StoreByteAt rn rt address) it = Some (access_of Store Byte address rn rt)
+flat_rest (flat.LoadDoubleword x) it = Some (offset_access Load Doubleword x)
+flat_rest (flat.LoadWord x) it = Some (offset_access Load Word x)
+flat_rest (flat.LoadHalfword x) it = Some (offset_access Load Halfword x)
+flat_rest (flat.LoadByte x) it = Some (offset_access Load Byte x)
+flat_rest (flat.LoadSignedWord x) it = Some (offset_access LoadSignedTo64 Word x)
+flat_rest (flat.LoadSignedHalfword x) it = Some (offset_access LoadSignedTo64 Halfword x)
+flat_rest (flat.LoadSignedByte x) it = Some (offset_access LoadSignedTo64 Byte x)
+flat_rest (flat.NarrowLoadSignedHalfword x) it = Some (offset_access LoadSignedTo32 Halfword x)
+flat_rest (flat.NarrowLoadSignedByte x) it = Some (offset_access LoadSignedTo32 Byte x)
+flat_rest (flat.StoreDoubleword x) it = Some (offset_access Store Doubleword x)
+flat_rest (flat.StoreWord x) it = Some (offset_access Store Word x)
+flat_rest (flat.StoreHalfword x) it = Some (offset_access Store Halfword x)
+flat_rest (flat.StoreByte x) it = Some (offset_access Store Byte x)
+flat_rest (flat.LoadDoublewordAt x) it = Some (access_of Load Doubleword x)
+flat_rest (flat.LoadWordAt x) it = Some (access_of Load Word x)
+flat_rest (flat.LoadHalfwordAt x) it = Some (access_of Load Halfword x)
+flat_rest (flat.LoadByteAt x) it = Some (access_of Load Byte x)
+flat_rest (flat.LoadSignedWordAt x) it = Some (access_of LoadSignedTo64 Word x)
+flat_rest (flat.LoadSignedHalfwordAt x) it = Some (access_of LoadSignedTo64 Halfword x)
+flat_rest (flat.LoadSignedByteAt x) it = Some (access_of LoadSignedTo64 Byte x)
+flat_rest (flat.NarrowLoadSignedHalfwordAt x) it = Some (access_of LoadSignedTo32 Halfword x)
+flat_rest (flat.NarrowLoadSignedByteAt x) it = Some (access_of LoadSignedTo32 Byte x)
+flat_rest (flat.StoreDoublewordAt x) it = Some (access_of Store Doubleword x)
+flat_rest (flat.StoreWordAt x) it = Some (access_of Store Word x)
+flat_rest (flat.StoreHalfwordAt x) it = Some (access_of Store Halfword x)
+flat_rest (flat.StoreByteAt x) it = Some (access_of Store Byte x)
 flat_rest (flat.LoadPair x) it = Some (pair_of Ldp index.Offset x)
 flat_rest (flat.StorePair x) it = Some (pair_of Stp index.Offset x)
 flat_rest (flat.LoadPairAt x) it = Some (pair_at Ldp x)
 flat_rest (flat.StorePairAt x) it = Some (pair_at Stp x)
-flat_rest (flat.StoreNext rn rt offset) it = Some (access_of Store Doubleword (PostIndex offset) rn rt)
-flat_rest flat.Load it = cond (is_plain_load it) (Some it) None
 flat_rest flat.Scalar it = cond (is_scalar it) (Some it) None
 flat_rest flat.Other it = Some it
 flat_rest other it = None
@@ -197,8 +196,7 @@ IsFlatOf flat it = flat_value flat it ≡ Some it
 abbrev pub IsFlatInRow : Flat → Type 0
 IsFlatInRow flat = MatchOption (flat_insn flat) Unit (λ it. IsTrue (is_scalar it) → IsInRow it)
 
--- what is known of an instruction of the scalar registers alone that PC, so far from the base, points at: it
--- takes PC on to a distance
+-- an instruction of the scalar registers alone takes PC on to a distance
 abbrev pub StepsTo : Insn → ℕ → ℕ → Option ℕ → Scalars → Scalars → Type 0
 StepsTo it base at result old new =
     IsTrue (is_scalar it) × MatchOption result ⊥ (λ next. Steps it base at next old new)

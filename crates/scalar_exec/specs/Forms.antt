@@ -2,17 +2,20 @@
 use Rattle.std.specs.Prelude.{ℕ, ℤ, Bool, true, false}
 use Rattle.sm_types.specs.declared.insn as types
 use types.{Insn.Insn, AddSub.AddSub, Logical.Logical, MoveOp.MoveOp, BitfieldOp.BitfieldOp, SelectOp.SelectOp}
-use types.{TwoSourceOp.TwoSourceOp, ShiftedRegister.ShiftedRegister, Address.Address}
+use types.{TwoSourceOp.TwoSourceOp, ShiftedRegister.ShiftedRegister}
 use types.{LoadStoreOp.LoadStoreOp, AccessSize.AccessSize, PairOp.PairOp, PairIndex.PairIndex}
 use types.AddSub.TheVariants.{Add}
 use types.ShiftKind.TheVariants.{Lsl}
 use types.CompareOp.TheVariants.{Ccmp}
+use types.Address.TheVariants.{Offset}
 use types.Multiply.TheVariants.{Same, Long, High}
 use types.CompareOperand.TheVariants as operand
 use types.Insn.TheVariants as insn
 use Rattle.scalar_exec.specs.declared.payloads as forms
-use forms.{Immediate.Immediate, Registers.Registers, LeftShifted.LeftShifted, Shifted.Shifted, Extended.Extended, BitFields.BitFields}
-use forms.{Halfword.Halfword, Selection.Selection, Comparison.Comparison, Factors.Factors, Pair.Pair, IndexedPair.IndexedPair}
+use forms.{Immediate.Immediate, Registers.Registers, LeftShifted.LeftShifted, Shifted.Shifted}
+use forms.{Extended.Extended, BitFields.BitFields, Halfword.Halfword, Selection.Selection}
+use forms.{Comparison.Comparison, Factors.Factors, OffsetAccess.OffsetAccess, Access.Access}
+use forms.{Pair.Pair, IndexedPair.IndexedPair}
 
 -- a register that is not shifted
 abbrev pub unshifted : ℕ → ShiftedRegister
@@ -136,10 +139,15 @@ abbrev pub high_product : Bool → Registers → Insn
 high_product signed x =
     insn.Multiply (High signed x.rm x.rn x.rd)
 
+-- a load or store of one register, at an offset
+abbrev pub offset_access : LoadStoreOp → AccessSize → OffsetAccess → Insn
+offset_access op size x =
+    insn.LoadStore (record { op = op; size = size; address = Offset x.imm; rn = x.rn; rt = x.rt })
+
 -- a load or store of one register
-abbrev pub access_of : LoadStoreOp → AccessSize → Address → ℕ → ℕ → Insn
-access_of op size address rn rt =
-    insn.LoadStore (record { op = op; size = size; address = address; rn = rn; rt = rt })
+abbrev pub access_of : LoadStoreOp → AccessSize → Access → Insn
+access_of op size x =
+    insn.LoadStore (record { op = op; size = size; address = x.address; rn = x.rn; rt = x.rt })
 
 -- a load or store of two registers of 64 bits
 abbrev pub pair_of : PairOp → PairIndex → Pair → Insn

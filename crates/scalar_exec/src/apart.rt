@@ -174,7 +174,9 @@ fn step_call(s: &mut Scalars, words: i32, base: u64, at: u64) -> u64
 
 /// Branches to an address at a distance.
 #[inline(always)]
-#[tactic(auto, using(crate::proofs::AnyPc::holds_any), unfolding(crate::specs::Step::scalar_step, crate::specs::Branches::branch, crate::specs::Registers::x_of))]
+#[tactic(auto, using(crate::proofs::AnyPc::holds_any), unfolding(
+// The step, and the registers that it reads.
+crate::specs::Step::scalar_step, crate::specs::Branches::branch, crate::specs::Registers::x_of,))]
 pub fn step_branch(s: &mut Scalars, x: &Branch, base: u64, at: u64) -> u64
     requires { IsBranch x.now }
     ensures { Steps (insn.Branch x.now) base at result s.old s.new }

@@ -1,8 +1,11 @@
 //! Instructions with their first tests taken in advance, so that one jump leads to what each does.
-ghost use Rattle.std.specs.Prelude.{◌≡◌, IsTrue};
+ghost use Rattle.std.specs.Prelude.{◌≡◌, IsTrue, ℕ, None, Some};
+ghost use Rattle.sm_types.specs.declared.scalars.Scalars.{Scalars};
+ghost use Rattle.sm_types.specs.declared.insn.Insn.{Insn};
+ghost use Rattle.scalar_exec.specs.declared.flat.Flat.{Flat};
 ghost use Rattle.a64_table.specs.Ranges.{IsInRow};
 ghost use Rattle.scalar_exec.specs.Step.{scalar_step, is_scalar, flowed};
-ghost use Rattle.scalar_exec.specs.Flat.{IsFlatInRow, StepsFlat};
+ghost use Rattle.scalar_exec.specs.Flat.{IsFlatOf, IsFlatInRow, StepsTo, StepsFlat};
 
 use crate::exec::{Flow, exec_scalar};
 use crate::forms::{
@@ -12,16 +15,16 @@ use crate::forms::{
     write_address,
 };
 use crate::payloads::{
-    BitFields, Comparison, Extended, Factors, Halfword, Immediate, IndexedPair, LeftShifted, Pair,
-    Registers, Selection, Shifted,
+    Access, BitFields, Comparison, Extended, Factors, Halfword, Immediate, IndexedPair,
+    LeftShifted, OffsetAccess, Pair, Registers, Selection, Shifted,
 };
 use crate::registers::next_address;
 use sm_types::{
-    AddSub, Address, BitfieldOp, BranchRegisterOp, Condition, Insn, Logical, MoveOp, PcRelativeOp,
-    Scalars, SelectOp, TwoSourceOp,
+    AddSub, BitfieldOp, BranchRegisterOp, Condition, Insn, Logical, MoveOp, PcRelativeOp, Scalars,
+    SelectOp, TwoSourceOp,
 };
 
-/// An instruction by what it does: each but `Load`, `Scalar` and `Other` says all of it. What is not said
+/// An instruction by what it does: each but `Scalar` and `Other` says all of it. What is not said
 /// to be narrow is of 64 bits.
 #[derive(Clone, Copy)]
 pub enum Flat {
@@ -132,40 +135,36 @@ pub enum Flat {
     Address { rd: u8, imm: i32 },
     PageAddress { rd: u8, imm: i32 },
     // Loads and stores, with an immediate offset or another address.
-    LoadDoubleword { imm: u16, rn: u8, rt: u8 },
-    LoadWord { imm: u16, rn: u8, rt: u8 },
-    LoadHalfword { imm: u16, rn: u8, rt: u8 },
-    LoadByte { imm: u16, rn: u8, rt: u8 },
-    LoadSignedWord { imm: u16, rn: u8, rt: u8 },
-    LoadSignedHalfword { imm: u16, rn: u8, rt: u8 },
-    LoadSignedByte { imm: u16, rn: u8, rt: u8 },
-    NarrowLoadSignedHalfword { imm: u16, rn: u8, rt: u8 },
-    NarrowLoadSignedByte { imm: u16, rn: u8, rt: u8 },
-    StoreDoubleword { imm: u16, rn: u8, rt: u8 },
-    StoreWord { imm: u16, rn: u8, rt: u8 },
-    StoreHalfword { imm: u16, rn: u8, rt: u8 },
-    StoreByte { imm: u16, rn: u8, rt: u8 },
-    LoadDoublewordAt { rn: u8, rt: u8, address: Address },
-    LoadWordAt { rn: u8, rt: u8, address: Address },
-    LoadHalfwordAt { rn: u8, rt: u8, address: Address },
-    LoadByteAt { rn: u8, rt: u8, address: Address },
-    LoadSignedWordAt { rn: u8, rt: u8, address: Address },
-    LoadSignedHalfwordAt { rn: u8, rt: u8, address: Address },
-    LoadSignedByteAt { rn: u8, rt: u8, address: Address },
-    NarrowLoadSignedHalfwordAt { rn: u8, rt: u8, address: Address },
-    NarrowLoadSignedByteAt { rn: u8, rt: u8, address: Address },
-    StoreDoublewordAt { rn: u8, rt: u8, address: Address },
-    StoreWordAt { rn: u8, rt: u8, address: Address },
-    StoreHalfwordAt { rn: u8, rt: u8, address: Address },
-    StoreByteAt { rn: u8, rt: u8, address: Address },
+    LoadDoubleword(OffsetAccess),
+    LoadWord(OffsetAccess),
+    LoadHalfword(OffsetAccess),
+    LoadByte(OffsetAccess),
+    LoadSignedWord(OffsetAccess),
+    LoadSignedHalfword(OffsetAccess),
+    LoadSignedByte(OffsetAccess),
+    NarrowLoadSignedHalfword(OffsetAccess),
+    NarrowLoadSignedByte(OffsetAccess),
+    StoreDoubleword(OffsetAccess),
+    StoreWord(OffsetAccess),
+    StoreHalfword(OffsetAccess),
+    StoreByte(OffsetAccess),
+    LoadDoublewordAt(Access),
+    LoadWordAt(Access),
+    LoadHalfwordAt(Access),
+    LoadByteAt(Access),
+    LoadSignedWordAt(Access),
+    LoadSignedHalfwordAt(Access),
+    LoadSignedByteAt(Access),
+    NarrowLoadSignedHalfwordAt(Access),
+    NarrowLoadSignedByteAt(Access),
+    StoreDoublewordAt(Access),
+    StoreWordAt(Access),
+    StoreHalfwordAt(Access),
+    StoreByteAt(Access),
     LoadPair(Pair),
     StorePair(Pair),
     LoadPairAt(IndexedPair),
     StorePairAt(IndexedPair),
-    /// Stores 8 bytes, and then moves the base.
-    StoreNext { rn: u8, rt: u8, offset: i32 },
-    /// Another load of one register.
-    Load,
     /// Another that reads and writes scalar registers alone.
     Scalar,
     /// Any other.
@@ -308,6 +307,49 @@ pub fn exec_at(s: &mut Scalars, flat: &Flat, base: u64, at: u64) -> Option<u64>
             imm,
             rd,
         )),
-        _ => None,
+        Flat::LoadDoubleword(_)
+        | Flat::LoadWord(_)
+        | Flat::LoadHalfword(_)
+        | Flat::LoadByte(_)
+        | Flat::LoadSignedWord(_)
+        | Flat::LoadSignedHalfword(_)
+        | Flat::LoadSignedByte(_)
+        | Flat::NarrowLoadSignedHalfword(_)
+        | Flat::NarrowLoadSignedByte(_)
+        | Flat::StoreDoubleword(_)
+        | Flat::StoreWord(_)
+        | Flat::StoreHalfword(_)
+        | Flat::StoreByte(_)
+        | Flat::LoadDoublewordAt(_)
+        | Flat::LoadWordAt(_)
+        | Flat::LoadHalfwordAt(_)
+        | Flat::LoadByteAt(_)
+        | Flat::LoadSignedWordAt(_)
+        | Flat::LoadSignedHalfwordAt(_)
+        | Flat::LoadSignedByteAt(_)
+        | Flat::NarrowLoadSignedHalfwordAt(_)
+        | Flat::NarrowLoadSignedByteAt(_)
+        | Flat::StoreDoublewordAt(_)
+        | Flat::StoreWordAt(_)
+        | Flat::StoreHalfwordAt(_)
+        | Flat::StoreByteAt(_)
+        | Flat::LoadPair(_)
+        | Flat::StorePair(_)
+        | Flat::LoadPairAt(_)
+        | Flat::StorePairAt(_)
+        | Flat::Scalar
+        | Flat::Other => None,
     }
 }
+
+/// What a flat instruction says of the instruction that it is of: its fields are in their ranges, and it is
+/// what `exec_at` executes where that gives a distance; else nothing has changed.
+#[inline(always)]
+pub fn flat_means()
+    ensures row { (flat : Flat) (it : Insn) → IsFlatOf flat it → (IsTrue (is_scalar it) → IsInRow it)
+        → IsFlatInRow flat }
+    ensures steps { (flat : Flat) (it : Insn) (base at next : ℕ) (old new : Scalars) → IsFlatOf flat it
+        → StepsFlat flat base at (Some next) old new → StepsTo it base at (Some next) old new }
+    ensures rests { (flat : Flat) (base at : ℕ) (old new : Scalars)
+        → StepsFlat flat base at None old new → new ≡ old }
+{}

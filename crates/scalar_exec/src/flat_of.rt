@@ -4,8 +4,8 @@ ghost use Rattle.scalar_exec.specs.Flat.{IsFlatOf};
 
 use crate::flat::Flat;
 use crate::payloads::{
-    BitFields, Comparison, Extended, Factors, Halfword, Immediate, IndexedPair, LeftShifted, Pair,
-    Registers, Selection, Shifted,
+    Access, BitFields, Comparison, Extended, Factors, Halfword, Immediate, IndexedPair,
+    LeftShifted, OffsetAccess, Pair, Registers, Selection, Shifted,
 };
 use sm_types::{
     AccessSize, AddSub, AddSubExtended, AddSubImmediate, AddSubRegister, Address, BitfieldMove,
@@ -471,90 +471,82 @@ fn flat_access(x: &LoadStore) -> Flat
     } = *x;
     match (op, size, address) {
         (LoadStoreOp::Load, AccessSize::Doubleword, Address::Offset { imm }) =>
-            Flat::LoadDoubleword { imm, rn, rt },
-        (LoadStoreOp::Load, AccessSize::Word, Address::Offset { imm }) => Flat::LoadWord {
-            imm,
-            rn,
-            rt,
-        },
-        (LoadStoreOp::Load, AccessSize::Halfword, Address::Offset { imm }) => Flat::LoadHalfword {
-            imm,
-            rn,
-            rt,
-        },
-        (LoadStoreOp::Load, AccessSize::Byte, Address::Offset { imm }) => Flat::LoadByte {
-            imm,
-            rn,
-            rt,
-        },
+            Flat::LoadDoubleword(OffsetAccess { imm, rn, rt }),
+        (LoadStoreOp::Load, AccessSize::Word, Address::Offset { imm }) => Flat::LoadWord(
+            OffsetAccess { imm, rn, rt },
+        ),
+        (LoadStoreOp::Load, AccessSize::Halfword, Address::Offset { imm }) => Flat::LoadHalfword(
+            OffsetAccess { imm, rn, rt },
+        ),
+        (LoadStoreOp::Load, AccessSize::Byte, Address::Offset { imm }) => Flat::LoadByte(
+            OffsetAccess { imm, rn, rt },
+        ),
         (LoadStoreOp::LoadSignedTo64, AccessSize::Word, Address::Offset { imm }) =>
-            Flat::LoadSignedWord { imm, rn, rt },
+            Flat::LoadSignedWord(OffsetAccess { imm, rn, rt }),
         (LoadStoreOp::LoadSignedTo64, AccessSize::Halfword, Address::Offset { imm }) =>
-            Flat::LoadSignedHalfword { imm, rn, rt },
+            Flat::LoadSignedHalfword(OffsetAccess { imm, rn, rt }),
         (LoadStoreOp::LoadSignedTo64, AccessSize::Byte, Address::Offset { imm }) =>
-            Flat::LoadSignedByte { imm, rn, rt },
+            Flat::LoadSignedByte(OffsetAccess { imm, rn, rt }),
         (LoadStoreOp::LoadSignedTo32, AccessSize::Halfword, Address::Offset { imm }) =>
-            Flat::NarrowLoadSignedHalfword { imm, rn, rt },
+            Flat::NarrowLoadSignedHalfword(OffsetAccess { imm, rn, rt }),
         (LoadStoreOp::LoadSignedTo32, AccessSize::Byte, Address::Offset { imm }) =>
-            Flat::NarrowLoadSignedByte { imm, rn, rt },
+            Flat::NarrowLoadSignedByte(OffsetAccess { imm, rn, rt }),
         (LoadStoreOp::Store, AccessSize::Doubleword, Address::Offset { imm }) =>
-            Flat::StoreDoubleword { imm, rn, rt },
-        (LoadStoreOp::Store, AccessSize::Word, Address::Offset { imm }) => Flat::StoreWord {
-            imm,
-            rn,
-            rt,
-        },
-        (LoadStoreOp::Store, AccessSize::Halfword, Address::Offset { imm }) => Flat::StoreHalfword {
-            imm,
-            rn,
-            rt,
-        },
-        (LoadStoreOp::Store, AccessSize::Byte, Address::Offset { imm }) => Flat::StoreByte {
-            imm,
-            rn,
-            rt,
-        },
-        (LoadStoreOp::Load, AccessSize::Doubleword, _) => Flat::LoadDoublewordAt {
+            Flat::StoreDoubleword(OffsetAccess { imm, rn, rt }),
+        (LoadStoreOp::Store, AccessSize::Word, Address::Offset { imm }) => Flat::StoreWord(
+            OffsetAccess { imm, rn, rt },
+        ),
+        (LoadStoreOp::Store, AccessSize::Halfword, Address::Offset { imm }) => Flat::StoreHalfword(
+            OffsetAccess { imm, rn, rt },
+        ),
+        (LoadStoreOp::Store, AccessSize::Byte, Address::Offset { imm }) => Flat::StoreByte(
+            OffsetAccess { imm, rn, rt },
+        ),
+        (LoadStoreOp::Load, AccessSize::Doubleword, _) => Flat::LoadDoublewordAt(Access {
             rn,
             rt,
             address,
-        },
-        (LoadStoreOp::Load, AccessSize::Word, _) => Flat::LoadWordAt { rn, rt, address },
-        (LoadStoreOp::Load, AccessSize::Halfword, _) => Flat::LoadHalfwordAt { rn, rt, address },
-        (LoadStoreOp::Load, AccessSize::Byte, _) => Flat::LoadByteAt { rn, rt, address },
-        (LoadStoreOp::LoadSignedTo64, AccessSize::Word, _) => Flat::LoadSignedWordAt {
+        }),
+        (LoadStoreOp::Load, AccessSize::Word, _) => Flat::LoadWordAt(Access { rn, rt, address }),
+        (LoadStoreOp::Load, AccessSize::Halfword, _) => Flat::LoadHalfwordAt(Access {
             rn,
             rt,
             address,
-        },
-        (LoadStoreOp::LoadSignedTo64, AccessSize::Halfword, _) => Flat::LoadSignedHalfwordAt {
+        }),
+        (LoadStoreOp::Load, AccessSize::Byte, _) => Flat::LoadByteAt(Access { rn, rt, address }),
+        (LoadStoreOp::LoadSignedTo64, AccessSize::Word, _) => Flat::LoadSignedWordAt(Access {
             rn,
             rt,
             address,
-        },
-        (LoadStoreOp::LoadSignedTo64, AccessSize::Byte, _) => Flat::LoadSignedByteAt {
+        }),
+        (LoadStoreOp::LoadSignedTo64, AccessSize::Halfword, _) => Flat::LoadSignedHalfwordAt(
+            Access { rn, rt, address },
+        ),
+        (LoadStoreOp::LoadSignedTo64, AccessSize::Byte, _) => Flat::LoadSignedByteAt(Access {
             rn,
             rt,
             address,
-        },
-        (LoadStoreOp::LoadSignedTo32, AccessSize::Halfword, _) => Flat::NarrowLoadSignedHalfwordAt {
+        }),
+        (LoadStoreOp::LoadSignedTo32, AccessSize::Halfword, _) => Flat::NarrowLoadSignedHalfwordAt(
+            Access { rn, rt, address },
+        ),
+        (LoadStoreOp::LoadSignedTo32, AccessSize::Byte, _) => Flat::NarrowLoadSignedByteAt(Access {
             rn,
             rt,
             address,
-        },
-        (LoadStoreOp::LoadSignedTo32, AccessSize::Byte, _) => Flat::NarrowLoadSignedByteAt {
+        }),
+        (LoadStoreOp::Store, AccessSize::Doubleword, _) => Flat::StoreDoublewordAt(Access {
             rn,
             rt,
             address,
-        },
-        (LoadStoreOp::Store, AccessSize::Doubleword, _) => Flat::StoreDoublewordAt {
+        }),
+        (LoadStoreOp::Store, AccessSize::Word, _) => Flat::StoreWordAt(Access { rn, rt, address }),
+        (LoadStoreOp::Store, AccessSize::Halfword, _) => Flat::StoreHalfwordAt(Access {
             rn,
             rt,
             address,
-        },
-        (LoadStoreOp::Store, AccessSize::Word, _) => Flat::StoreWordAt { rn, rt, address },
-        (LoadStoreOp::Store, AccessSize::Halfword, _) => Flat::StoreHalfwordAt { rn, rt, address },
-        (LoadStoreOp::Store, AccessSize::Byte, _) => Flat::StoreByteAt { rn, rt, address },
+        }),
+        (LoadStoreOp::Store, AccessSize::Byte, _) => Flat::StoreByteAt(Access { rn, rt, address }),
         _ => Flat::Other,
     }
 }

@@ -3,9 +3,10 @@ ghost use Rattle.std.specs.Prelude.{◌≡◌, ℕ, true, false};
 ghost use Rattle.sm_types.specs.declared.insn.Insn.TheVariants as insn;
 ghost use Rattle.a64_table.specs.Ranges.{IsInRow};
 ghost use Rattle.scalar_exec.specs.Apart.{Steps};
-ghost use Rattle.scalar_exec.specs.Forms.{unshifted, sum_immediate, sum_register, sum_shifted, sum_extended, logical, logical_shifted};
-ghost use Rattle.scalar_exec.specs.Forms.{masked, halfword_move, field_move, selected, compared, compared_immediate};
-ghost use Rattle.scalar_exec.specs.Forms.{two_sources, product, long_product, high_product};
+ghost use Rattle.scalar_exec.specs.Forms.{unshifted, sum_immediate, sum_register, sum_shifted, sum_extended};
+ghost use Rattle.scalar_exec.specs.Forms.{logical, logical_shifted, masked, halfword_move, field_move};
+ghost use Rattle.scalar_exec.specs.Forms.{selected, compared, compared_immediate, two_sources, product};
+ghost use Rattle.scalar_exec.specs.Forms.{long_product, high_product};
 
 use crate::apart::{
     step_add_sub_extended, step_add_sub_immediate, step_add_sub_register, step_bitfield_move,

@@ -23,11 +23,11 @@ mod sums;
 
 pub use branches::{address_at, branch_target};
 pub use exec::{Flow, exec_scalar};
-pub use flat::{Flat, exec_at, exec_next};
+pub use flat::{Flat, exec_at, exec_next, flat_means};
 pub use flat_of::flatten;
 pub use operands::{extend, extend_sign};
 pub use payloads::{
-    BitFields, Comparison, Extended, Factors, Halfword, Immediate, IndexedPair, LeftShifted, Pair,
-    Registers, Selection, Shifted,
+    Access, BitFields, Comparison, Extended, Factors, Halfword, Immediate, IndexedPair,
+    LeftShifted, OffsetAccess, Pair, Registers, Selection, Shifted,
 };
 pub use registers::{next_address, read_x, read_x_or_sp, write_flags, write_x, write_x_or_sp};

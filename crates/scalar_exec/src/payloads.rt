@@ -1,5 +1,5 @@
 //! The fields of flat instructions.
-use sm_types::{Condition, Extend, PairIndex, ShiftKind};
+use sm_types::{Address, Condition, Extend, PairIndex, ShiftKind};
 
 /// A register and an immediate of 12 bits.
 #[derive(Clone, Copy)]
@@ -72,7 +72,7 @@ pub struct Selection {
     pub rd: u8,
 }
 
-/// A register and a number, which is one of a register or an immediate, with the flags where a condition fails.
+/// A register, a register or an immediate, and the flags where a condition fails.
 #[derive(Clone, Copy)]
 pub struct Comparison {
     pub condition: Condition,
@@ -88,6 +88,22 @@ pub struct Factors {
     pub ra: u8,
     pub rn: u8,
     pub rd: u8,
+}
+
+/// A register in memory, at an offset from the base in units of its size.
+#[derive(Clone, Copy)]
+pub struct OffsetAccess {
+    pub imm: u16,
+    pub rn: u8,
+    pub rt: u8,
+}
+
+/// A register in memory.
+#[derive(Clone, Copy)]
+pub struct Access {
+    pub rn: u8,
+    pub rt: u8,
+    pub address: Address,
 }
 
 /// Two registers in memory, at a signed offset.
