@@ -2,7 +2,7 @@
 use Rattle.std.specs.Prelude.{ℕ, ℤ, Bool, true, false}
 use Rattle.sm_types.specs.declared.insn as types
 use types.{Insn.Insn, AddSub.AddSub, Logical.Logical, MoveOp.MoveOp, BitfieldOp.BitfieldOp, SelectOp.SelectOp}
-use types.{TwoSourceOp.TwoSourceOp, ShiftedRegister.ShiftedRegister}
+use types.{TwoSourceOp.TwoSourceOp, ShiftedRegister.ShiftedRegister, Address.Address}
 use types.{LoadStoreOp.LoadStoreOp, AccessSize.AccessSize, PairOp.PairOp, PairIndex.PairIndex}
 use types.AddSub.TheVariants.{Add}
 use types.ShiftKind.TheVariants.{Lsl}
@@ -14,7 +14,7 @@ use types.Insn.TheVariants as insn
 use Rattle.scalar_exec.specs.declared.payloads as forms
 use forms.{Immediate.Immediate, Registers.Registers, LeftShifted.LeftShifted, Shifted.Shifted}
 use forms.{Extended.Extended, BitFields.BitFields, Halfword.Halfword, Selection.Selection}
-use forms.{Comparison.Comparison, Factors.Factors, OffsetAccess.OffsetAccess, Access.Access}
+use forms.{Comparison.Comparison, Factors.Factors, OffsetAccess.OffsetAccess, Base.Base}
 use forms.{Pair.Pair, IndexedPair.IndexedPair}
 
 -- a register that is not shifted
@@ -145,9 +145,9 @@ offset_access op size x =
     insn.LoadStore (record { op = op; size = size; address = Offset x.imm; rn = x.rn; rt = x.rt })
 
 -- a load or store of one register
-abbrev pub access_of : LoadStoreOp → AccessSize → Access → Insn
-access_of op size x =
-    insn.LoadStore (record { op = op; size = size; address = x.address; rn = x.rn; rt = x.rt })
+abbrev pub access_of : LoadStoreOp → AccessSize → Base → Address → Insn
+access_of op size x address =
+    insn.LoadStore (record { op = op; size = size; address = address; rn = x.rn; rt = x.rt })
 
 -- a load or store of two registers of 64 bits
 abbrev pub pair_of : PairOp → PairIndex → Pair → Insn

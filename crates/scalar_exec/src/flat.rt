@@ -15,13 +15,13 @@ use crate::forms::{
     write_address,
 };
 use crate::payloads::{
-    Access, BitFields, Comparison, Extended, Factors, Halfword, Immediate, IndexedPair,
-    LeftShifted, OffsetAccess, Pair, Registers, Selection, Shifted,
+    Base, BitFields, Comparison, Extended, Factors, Halfword, Immediate, IndexedPair, LeftShifted,
+    OffsetAccess, Pair, Registers, Selection, Shifted,
 };
 use crate::registers::next_address;
 use sm_types::{
-    AddSub, BitfieldOp, BranchRegisterOp, Condition, Insn, Logical, MoveOp, PcRelativeOp, Scalars,
-    SelectOp, TwoSourceOp,
+    AddSub, Address, BitfieldOp, BranchRegisterOp, Condition, Insn, Logical, MoveOp, PcRelativeOp,
+    Scalars, SelectOp, TwoSourceOp,
 };
 
 /// An instruction by what it does: each but `Scalar` and `Other` says all of it. What is not said
@@ -148,19 +148,19 @@ pub enum Flat {
     StoreWord(OffsetAccess),
     StoreHalfword(OffsetAccess),
     StoreByte(OffsetAccess),
-    LoadDoublewordAt(Access),
-    LoadWordAt(Access),
-    LoadHalfwordAt(Access),
-    LoadByteAt(Access),
-    LoadSignedWordAt(Access),
-    LoadSignedHalfwordAt(Access),
-    LoadSignedByteAt(Access),
-    NarrowLoadSignedHalfwordAt(Access),
-    NarrowLoadSignedByteAt(Access),
-    StoreDoublewordAt(Access),
-    StoreWordAt(Access),
-    StoreHalfwordAt(Access),
-    StoreByteAt(Access),
+    LoadDoublewordAt(Base, Address),
+    LoadWordAt(Base, Address),
+    LoadHalfwordAt(Base, Address),
+    LoadByteAt(Base, Address),
+    LoadSignedWordAt(Base, Address),
+    LoadSignedHalfwordAt(Base, Address),
+    LoadSignedByteAt(Base, Address),
+    NarrowLoadSignedHalfwordAt(Base, Address),
+    NarrowLoadSignedByteAt(Base, Address),
+    StoreDoublewordAt(Base, Address),
+    StoreWordAt(Base, Address),
+    StoreHalfwordAt(Base, Address),
+    StoreByteAt(Base, Address),
     LoadPair(Pair),
     StorePair(Pair),
     LoadPairAt(IndexedPair),
@@ -320,19 +320,19 @@ pub fn exec_at(s: &mut Scalars, flat: &Flat, base: u64, at: u64) -> Option<u64>
         | Flat::StoreWord(_)
         | Flat::StoreHalfword(_)
         | Flat::StoreByte(_)
-        | Flat::LoadDoublewordAt(_)
-        | Flat::LoadWordAt(_)
-        | Flat::LoadHalfwordAt(_)
-        | Flat::LoadByteAt(_)
-        | Flat::LoadSignedWordAt(_)
-        | Flat::LoadSignedHalfwordAt(_)
-        | Flat::LoadSignedByteAt(_)
-        | Flat::NarrowLoadSignedHalfwordAt(_)
-        | Flat::NarrowLoadSignedByteAt(_)
-        | Flat::StoreDoublewordAt(_)
-        | Flat::StoreWordAt(_)
-        | Flat::StoreHalfwordAt(_)
-        | Flat::StoreByteAt(_)
+        | Flat::LoadDoublewordAt(_, _)
+        | Flat::LoadWordAt(_, _)
+        | Flat::LoadHalfwordAt(_, _)
+        | Flat::LoadByteAt(_, _)
+        | Flat::LoadSignedWordAt(_, _)
+        | Flat::LoadSignedHalfwordAt(_, _)
+        | Flat::LoadSignedByteAt(_, _)
+        | Flat::NarrowLoadSignedHalfwordAt(_, _)
+        | Flat::NarrowLoadSignedByteAt(_, _)
+        | Flat::StoreDoublewordAt(_, _)
+        | Flat::StoreWordAt(_, _)
+        | Flat::StoreHalfwordAt(_, _)
+        | Flat::StoreByteAt(_, _)
         | Flat::LoadPair(_)
         | Flat::StorePair(_)
         | Flat::LoadPairAt(_)

@@ -4,8 +4,8 @@ ghost use Rattle.scalar_exec.specs.Flat.{IsFlatOf};
 
 use crate::flat::Flat;
 use crate::payloads::{
-    Access, BitFields, Comparison, Extended, Factors, Halfword, Immediate, IndexedPair,
-    LeftShifted, OffsetAccess, Pair, Registers, Selection, Shifted,
+    Base, BitFields, Comparison, Extended, Factors, Halfword, Immediate, IndexedPair, LeftShifted,
+    OffsetAccess, Pair, Registers, Selection, Shifted,
 };
 use sm_types::{
     AccessSize, AddSub, AddSubExtended, AddSubImmediate, AddSubRegister, Address, BitfieldMove,
@@ -502,51 +502,46 @@ fn flat_access(x: &LoadStore) -> Flat
         (LoadStoreOp::Store, AccessSize::Byte, Address::Offset { imm }) => Flat::StoreByte(
             OffsetAccess { imm, rn, rt },
         ),
-        (LoadStoreOp::Load, AccessSize::Doubleword, _) => Flat::LoadDoublewordAt(Access {
-            rn,
-            rt,
+        (LoadStoreOp::Load, AccessSize::Doubleword, _) => Flat::LoadDoublewordAt(
+            Base { rn, rt },
             address,
-        }),
-        (LoadStoreOp::Load, AccessSize::Word, _) => Flat::LoadWordAt(Access { rn, rt, address }),
-        (LoadStoreOp::Load, AccessSize::Halfword, _) => Flat::LoadHalfwordAt(Access {
-            rn,
-            rt,
+        ),
+        (LoadStoreOp::Load, AccessSize::Word, _) => Flat::LoadWordAt(Base { rn, rt }, address),
+        (LoadStoreOp::Load, AccessSize::Halfword, _) => Flat::LoadHalfwordAt(
+            Base { rn, rt },
             address,
-        }),
-        (LoadStoreOp::Load, AccessSize::Byte, _) => Flat::LoadByteAt(Access { rn, rt, address }),
-        (LoadStoreOp::LoadSignedTo64, AccessSize::Word, _) => Flat::LoadSignedWordAt(Access {
-            rn,
-            rt,
+        ),
+        (LoadStoreOp::Load, AccessSize::Byte, _) => Flat::LoadByteAt(Base { rn, rt }, address),
+        (LoadStoreOp::LoadSignedTo64, AccessSize::Word, _) => Flat::LoadSignedWordAt(
+            Base { rn, rt },
             address,
-        }),
+        ),
         (LoadStoreOp::LoadSignedTo64, AccessSize::Halfword, _) => Flat::LoadSignedHalfwordAt(
-            Access { rn, rt, address },
-        ),
-        (LoadStoreOp::LoadSignedTo64, AccessSize::Byte, _) => Flat::LoadSignedByteAt(Access {
-            rn,
-            rt,
+            Base { rn, rt },
             address,
-        }),
+        ),
+        (LoadStoreOp::LoadSignedTo64, AccessSize::Byte, _) => Flat::LoadSignedByteAt(
+            Base { rn, rt },
+            address,
+        ),
         (LoadStoreOp::LoadSignedTo32, AccessSize::Halfword, _) => Flat::NarrowLoadSignedHalfwordAt(
-            Access { rn, rt, address },
+            Base { rn, rt },
+            address,
         ),
-        (LoadStoreOp::LoadSignedTo32, AccessSize::Byte, _) => Flat::NarrowLoadSignedByteAt(Access {
-            rn,
-            rt,
+        (LoadStoreOp::LoadSignedTo32, AccessSize::Byte, _) => Flat::NarrowLoadSignedByteAt(
+            Base { rn, rt },
             address,
-        }),
-        (LoadStoreOp::Store, AccessSize::Doubleword, _) => Flat::StoreDoublewordAt(Access {
-            rn,
-            rt,
+        ),
+        (LoadStoreOp::Store, AccessSize::Doubleword, _) => Flat::StoreDoublewordAt(
+            Base { rn, rt },
             address,
-        }),
-        (LoadStoreOp::Store, AccessSize::Word, _) => Flat::StoreWordAt(Access { rn, rt, address }),
-        (LoadStoreOp::Store, AccessSize::Halfword, _) => Flat::StoreHalfwordAt(Access {
-            rn,
-            rt,
+        ),
+        (LoadStoreOp::Store, AccessSize::Word, _) => Flat::StoreWordAt(Base { rn, rt }, address),
+        (LoadStoreOp::Store, AccessSize::Halfword, _) => Flat::StoreHalfwordAt(
+            Base { rn, rt },
             address,
-        }),
-        (LoadStoreOp::Store, AccessSize::Byte, _) => Flat::StoreByteAt(Access { rn, rt, address }),
+        ),
+        (LoadStoreOp::Store, AccessSize::Byte, _) => Flat::StoreByteAt(Base { rn, rt }, address),
         _ => Flat::Other,
     }
 }

@@ -27,7 +27,7 @@ pub use flat::{Flat, exec_at, exec_next, flat_means};
 pub use flat_of::flatten;
 pub use operands::{extend, extend_sign};
 pub use payloads::{
-    Access, BitFields, Comparison, Extended, Factors, Halfword, Immediate, IndexedPair,
-    LeftShifted, OffsetAccess, Pair, Registers, Selection, Shifted,
+    Base, BitFields, Comparison, Extended, Factors, Halfword, Immediate, IndexedPair, LeftShifted,
+    OffsetAccess, Pair, Registers, Selection, Shifted,
 };
 pub use registers::{next_address, read_x, read_x_or_sp, write_flags, write_x, write_x_or_sp};

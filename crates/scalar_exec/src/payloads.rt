@@ -1,5 +1,5 @@
 //! The fields of flat instructions.
-use sm_types::{Address, Condition, Extend, PairIndex, ShiftKind};
+use sm_types::{Condition, Extend, PairIndex, ShiftKind};
 
 /// A register and an immediate of 12 bits.
 #[derive(Clone, Copy)]
@@ -98,12 +98,11 @@ pub struct OffsetAccess {
     pub rt: u8,
 }
 
-/// A register in memory.
+/// The base of an address, and the register that is loaded or stored.
 #[derive(Clone, Copy)]
-pub struct Access {
+pub struct Base {
     pub rn: u8,
     pub rt: u8,
-    pub address: Address,
 }
 
 /// Two registers in memory, at a signed offset.
