@@ -272,7 +272,7 @@ pub fn transfer(insn: &Insn, scalars: &mut Scalars, pages: &mut Pages) -> Result
     transfer_run(insn, scalars, pages)
 }
 
-/// A load or store of one register, laid in, so that what is constant of it is tested in advance.
+/// A store of one register, or a load, inlined, so that what is constant of it is tested in advance.
 #[inline(always)]
 pub fn store_one(x: &LoadStore, s: &mut Scalars, pages: &mut Pages) -> Result<(), AccessStop>
     requires { IsLoadStore x.now }
@@ -287,7 +287,7 @@ pub fn store_one(x: &LoadStore, s: &mut Scalars, pages: &mut Pages) -> Result<()
     transfer(&Insn::LoadStore(*x), s, pages)
 }
 
-/// A load or store of two registers, laid in like that of one.
+/// A store of two registers, or a load, inlined too.
 #[inline(always)]
 pub fn store_pair(x: &LoadStorePair, s: &mut Scalars, pages: &mut Pages) -> Result<(), AccessStop>
     requires { IsLoadStorePair x.now }

@@ -307,38 +307,38 @@ pub fn exec_at(s: &mut Scalars, flat: &Flat, base: u64, at: u64) -> Option<u64>
             imm,
             rd,
         )),
-        Flat::LoadDoubleword(_)
-        | Flat::LoadWord(_)
-        | Flat::LoadHalfword(_)
-        | Flat::LoadByte(_)
-        | Flat::LoadSignedWord(_)
-        | Flat::LoadSignedHalfword(_)
-        | Flat::LoadSignedByte(_)
-        | Flat::NarrowLoadSignedHalfword(_)
-        | Flat::NarrowLoadSignedByte(_)
-        | Flat::StoreDoubleword(_)
-        | Flat::StoreWord(_)
-        | Flat::StoreHalfword(_)
-        | Flat::StoreByte(_)
-        | Flat::LoadDoublewordAt(_, _)
-        | Flat::LoadWordAt(_, _)
-        | Flat::LoadHalfwordAt(_, _)
-        | Flat::LoadByteAt(_, _)
-        | Flat::LoadSignedWordAt(_, _)
-        | Flat::LoadSignedHalfwordAt(_, _)
-        | Flat::LoadSignedByteAt(_, _)
-        | Flat::NarrowLoadSignedHalfwordAt(_, _)
-        | Flat::NarrowLoadSignedByteAt(_, _)
-        | Flat::StoreDoublewordAt(_, _)
-        | Flat::StoreWordAt(_, _)
-        | Flat::StoreHalfwordAt(_, _)
-        | Flat::StoreByteAt(_, _)
-        | Flat::LoadPair(_)
-        | Flat::StorePair(_)
-        | Flat::LoadPairAt(_)
-        | Flat::StorePairAt(_)
-        | Flat::Scalar
-        | Flat::Other => None,
+        Flat::LoadDoubleword(_) => None,
+        Flat::LoadWord(_) => None,
+        Flat::LoadHalfword(_) => None,
+        Flat::LoadByte(_) => None,
+        Flat::LoadSignedWord(_) => None,
+        Flat::LoadSignedHalfword(_) => None,
+        Flat::LoadSignedByte(_) => None,
+        Flat::NarrowLoadSignedHalfword(_) => None,
+        Flat::NarrowLoadSignedByte(_) => None,
+        Flat::StoreDoubleword(_) => None,
+        Flat::StoreWord(_) => None,
+        Flat::StoreHalfword(_) => None,
+        Flat::StoreByte(_) => None,
+        Flat::LoadDoublewordAt(_, _) => None,
+        Flat::LoadWordAt(_, _) => None,
+        Flat::LoadHalfwordAt(_, _) => None,
+        Flat::LoadByteAt(_, _) => None,
+        Flat::LoadSignedWordAt(_, _) => None,
+        Flat::LoadSignedHalfwordAt(_, _) => None,
+        Flat::LoadSignedByteAt(_, _) => None,
+        Flat::NarrowLoadSignedHalfwordAt(_, _) => None,
+        Flat::NarrowLoadSignedByteAt(_, _) => None,
+        Flat::StoreDoublewordAt(_, _) => None,
+        Flat::StoreWordAt(_, _) => None,
+        Flat::StoreHalfwordAt(_, _) => None,
+        Flat::StoreByteAt(_, _) => None,
+        Flat::LoadPair(_) => None,
+        Flat::StorePair(_) => None,
+        Flat::LoadPairAt(_) => None,
+        Flat::StorePairAt(_) => None,
+        Flat::Scalar => None,
+        Flat::Other => None,
     }
 }
 
