@@ -4,7 +4,7 @@ use Rattle.machine_step.proofs.page_run.act_known.Given as goal
 
 abbrev pub invariant-turns : goal.invariant-turns
 invariant-turns g l = record {
-  computed : AreComputed (g.H.Halts.halts l.halts) l.pages.memory l.done l.initial.s l.s;
+  computed : AreComputed (g.H.Halts.halts l.halts) l.apart l.pages.memory l.done l.initial.s l.initial.bank l.s l.bank;
   few : l.done ≤ l.most;
 }
 
