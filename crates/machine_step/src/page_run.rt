@@ -72,26 +72,26 @@ fn act_known<H: Halts>(
     ensures few { result.0 ≤ most }
     ensures next { Follows (H.halts halts.now) pages.now.memory places.now s.new result.1 }
 {
-    let mut done = 0;
-    'turns: while done < most {
+    let mut left = most;
+    'turns: while left > 0 {
         let at = s.pc.wrapping_sub(base);
         if !is_word_place(at) {
-            return (done, Next::Unknown);
+            return (most - left, Next::Unknown);
         }
         let at = at as usize;
         let known = &places[at / 4];
         if known.word() != word_of(code, at) {
-            return (done, Next::Unknown);
+            return (most - left, Next::Unknown);
         }
         if halts.halts(s.pc, known.word()) {
-            return (done, Next::Halts(known.word()));
+            return (most - left, Next::Halts(known.word()));
         }
         if !known.act_on(s, bank, pages, apart) {
-            return (done, Next::Kept(at / 4));
+            return (most - left, Next::Kept(at / 4));
         }
-        done += 1;
+        left -= 1;
     }
-    (done, Next::Unknown)
+    (most - left, Next::Unknown)
 }
 
 impl Machine {

@@ -1,4 +1,4 @@
-use Rattle.std.proofs.Common.{◌≡◌, ◌+◌, ◌≤◌, ◌%◌, ◌^◌, ℕ, Bool, Some, add-one, ap, sym, subst, ◌∙◌, arith}
+use Rattle.std.proofs.Common.{suc, ◌-◌, ◌≡◌, ◌+◌, ◌≤◌, ◌%◌, ◌^◌, ℕ, Bool, Some, ap, sym, subst, ◌∙◌, arith}
 use Rattle.machine_step.specs.Computed.{ActsOn}
 use Rattle.machine_step.proofs.Places.{fetched_at}
 use Rattle.machine_step.proofs.page_run.act_known.Goals as goal
@@ -10,8 +10,9 @@ turns-preserved g c =
     let within = c.is_word_place.ensures.within c.if-not-is_word_place.false in
     let aligned = c.is_word_place.ensures.aligned c.if-not-is_word_place.false in
     let read = c.word_of.ensures m c.args.base c.requires.held (omega arith) in
+    let one_more : c.args.most - (c.turns.left - 1) ≡ suc (c.args.most - c.turns.left) = omega arith in
     record {
-      computed = rw add-one (
+      computed = rw one_more (
         c.turns.s,
         c.turns.bank,
         c.turns.invariant.computed,

@@ -25,7 +25,7 @@ runs-preserved g c =
       executed = rw add-one (executed_more halts c.args.apart bank.vectors.vl (c.runs.done + c.run_page-made.result.0) from
           c.run_page-made.new.self c.run_page-made.new.bank c.store_known.new.self c.run_page-made.new.bank (r.same.vl ∙ h.same.vl)
           (executed_after halts c.args.apart bank.vectors.vl c.runs.done c.run_page-made.result.0 from c.runs.self c.runs.bank
-    (core_of c.run_page-made.new.self (bank_state c.run_page-made.new.bank)) h.same.vl h.executed r.executed)
+          (core_of c.run_page-made.new.self (bank_state c.run_page-made.new.bank)) h.same.vl h.executed r.executed)
           (e.effect c.run_page-made.new.bank) (e.kept refl c.args.apart (bank_state c.run_page-made.new.bank)) n.unhalted);
       few = omega (arith, r.few, c.runs-test.true, c.if-done-most.false, h.few);
       owned = kept_trans c.args.self.now.pages c.runs.self.pages c.store_known.new.self.pages h.owned
@@ -52,7 +52,7 @@ returns-in_default g c =
     let from = core_of c.args.self.now (bank_state bank) in
     record {
       executed = executed_after halts c.args.apart bank.vectors.vl c.runs.done c.run_page-made.result.0 from c.runs.self c.runs.bank
-    (core_of c.run_page-made.new.self (bank_state c.run_page-made.new.bank)) h.same.vl h.executed r.executed;
+          (core_of c.run_page-made.new.self (bank_state c.run_page-made.new.bank)) h.same.vl h.executed r.executed;
       few = omega (arith, r.few, c.runs-test.true, h.few);
       next = r.next;
       owned = kept_trans c.args.self.now.pages c.runs.self.pages c.run_page-made.new.self.pages h.owned
