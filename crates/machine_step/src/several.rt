@@ -19,8 +19,6 @@ use crate::halts::Halts;
 use crate::machine::Machine;
 use crate::page_run::Next;
 use mem_access::Bank;
-use scalar_exec::Flat;
-use sm_types::{AccessSize, Address, Insn, LoadStore, LoadStoreOp};
 
 /// How many instructions were executed, and the word of the next one, where the run was told to halt before it.
 #[derive(Clone, Copy)]
@@ -71,7 +69,7 @@ impl Machine {
     {
         let mut done = 0;
         'steps: while done < most {
-            let (made, known) = self.run_known(decoder, halts, most - done);
+            let (made, known) = self.run_known(decoder, bank, halts, apart, most - done);
             done += made;
             if done == most {
                 return Made {
@@ -188,34 +186,7 @@ impl Machine {
         if self.wants(insn, apart) {
             return Attempt::Waits;
         }
-        match known.flat() {
-            Flat::StoreDoubleword { imm, rn, rt } => {
-                self.access_known(known.word(), &store_by(Address::Offset { imm }, rn, rt))
-            }
-            Flat::StoreNext { offset, rn, rt } => {
-                self.access_known(
-                    known.word(),
-                    &store_by(Address::PostIndex { offset }, rn, rt),
-                )
-            }
-            _ => self.attempt(known.word(), insn, bank),
-        }
-    }
-
-    /// Makes the access of a load or a store at once, which the word at PC means.
-    #[inline(always)]
-    fn access_known(&mut self, word: u32, insn: &Insn) -> Attempt
-        requires access { IsTrue (is_access insn.now) }
-        requires means { instruction_of word ≡ Some insn.now }
-        requires aligned { self.old.scalars.pc % 4 ≡ 0 }
-        requires fetched { word_at self.old.pages.memory self.old.scalars.pc ≡ Some word }
-        ensures effect { (bank : Bank) → AttemptsOn effect_of self.old bank self.new bank result }
-        ensures kept { (apart : Bool) (bank : VectorState)
-            → (apart && needs_bank (core_of self.old bank)) ≡ false }
-        ensures owned { KeepsOwned self.old.pages self.new.pages }
-        ensures mode { KeepsMode self.old self.new }
-    {
-        self.access_at_once(insn)
+        self.attempt(known.word(), insn, bank)
     }
 
     /// Executes the instruction of the word at PC at once, where it is one of these.
@@ -246,24 +217,4 @@ impl Machine {
         }
         self.execute_at_once(word, insn, bank)
     }
-}
-
-/// Stores 8 bytes.
-#[inline(always)]
-fn store_by(address: Address, rn: u8, rt: u8) -> Insn
-    ensures { result ≡ insn.LoadStore (record {
-      op = LoadStoreOp.Store;
-      size = AccessSize.Doubleword;
-      address = address;
-      rn = rn;
-      rt = rt;
-    }) }
-{
-    Insn::LoadStore(LoadStore {
-        op: LoadStoreOp::Store,
-        size: AccessSize::Doubleword,
-        address,
-        rn,
-        rt,
-    })
 }
