@@ -31,6 +31,16 @@ low_bits count k few below =
     same _ _ (all_below-at (one_at count) 8 k
     (all_below-at (λ count. all_below (one_at count) 8) 9 count all_ones (omega (arith, few))) below)
 
+-- the bits of a byte before that of a bit, of that byte, and of one after it
+pub bits_before : (end i k : ℕ) → i < end / 8 → k < 8 → nat_lt k 8 ≡ nat_lt (8 * i + k) end
+bits_before end i k before few = grind (arith, nat_tests)
+
+pub bits_here : (end i k : ℕ) → i ≡ end / 8 → k < 8 → nat_lt k (end % 8) ≡ nat_lt (8 * i + k) end
+bits_here end i k here few = grind (arith, nat_tests)
+
+pub bits_after : (end i k : ℕ) → end / 8 < i → k < 8 → nat_lt k 0 ≡ nat_lt (8 * i + k) end
+bits_after end i k after few = grind (arith, nat_tests)
+
 -- the bits of the first n bytes are those of elements before a bit
 abbrev pub AreBelow : Size → ℕ → List ℕ → ℕ → Type 0
 AreBelow size end pd n = (j : ℕ) → j < 8 * n → bit_of pd j ≡ ((j % bytes_in size == 0) && nat_lt j end)
@@ -65,6 +75,12 @@ before_end B limit n j below first = grind (arith, nat_tests)
 before_end H limit n j below first = grind (arith, nat_tests)
 before_end S limit n j below first = grind (arith, nat_tests)
 before_end D limit n j below first = grind (arith, nat_tests)
+
+pub end_within : (size : Size) (limit n : ℕ) → min limit (8 * n / bytes_in size) * bytes_in size ≤ 8 * n
+end_within B limit n = omega arith
+end_within H limit n = omega arith
+end_within S limit n = omega arith
+end_within D limit n = omega arith
 
 -- bits of the first elements, so many or all
 pub below_bit : (size : Size) (limit n end : ℕ) (pd : List ℕ) → end ≡ min limit (8 * n / bytes_in size) * bytes_in size

@@ -58,20 +58,12 @@ pub can_read_run : (rn a n : ℕ) (s : Scalars) (m : AddressSpace) → access_fa
     → first_without 4 m a n ≡ None
 can_read_run rn a n s m none = sym (denied_run 4 m a n) ∙ can_read rn (run_of a n) s m none
 
-pub can_write_run : (rn a n : ℕ) (s : Scalars) (m : AddressSpace) → access_fault None (at_base rn true (run_of a n)) s m ≡ None
-    → first_without 2 m a n ≡ None
-can_write_run rn a n s m none = sym (denied_run 2 m a n) ∙ can_write rn (run_of a n) s m none
-
--- bytes that are written, where no check fails: a write that is not made wants memory
+-- bytes that are written, where no other check fails: a write that is not made is denied, or wants memory
 pub stored_run : (fault denied : Option Exception) (made left old new : AddressSpace) (r : Result (Unit {0}) AccessStop)
-    → fault ≡ None → denied ≡ None → made ≡ left → OnOk r (new ≡ left) → IfErr r (λ e. denied ≡ raised_by e) → OnErr r (new ≡ old)
-    → Transfers fault made old new r
-stored_run fault denied made left old new (Ok done) none free is ok stop same = (none, ok ∙ sym is)
-stored_run fault denied made left old new (Err e) none free is ok stop same = (none ∙ sym free ∙ stop, same)
-
--- no byte that is denied
-pub none_denied : (f : ℕ → Exception) (o : Option ℕ) → o ≡ None → option_map f o ≡ None
-none_denied f o none = ap (option_map f) none
+    → fault ≡ denied → made ≡ left → OnOk r (denied ≡ None) → OnOk r (new ≡ left) → IfErr r (λ e. denied ≡ raised_by e)
+    → OnErr r (new ≡ old) → Transfers fault made old new r
+stored_run fault denied made left old new (Ok done) so is free ok stop same = (so ∙ free, ok ∙ sym is)
+stored_run fault denied made left old new (Err e) so is free ok stop same = (so ∙ stop, same)
 
 or_none : (a : Option Exception) → option_or a None ≡ a
 or_none None = refl
