@@ -37,7 +37,7 @@ HEAD = "# The processor's instructions for one guest instruction of each loop. `
 ROOM = 1.1
 # a check of marked calls may need so many times what a replay of the same loop needs, or where there are calls so many instructions
 MOST_OF_REPLAY = 1.3
-MOST_OF_CALLS = {"bl, add, ret, subs, b.ne": 113, "bl, ret, subs, b.ne": 117, "adr, blr, ret, subs, b.ne": 107, "a call in each 18": 102}
+MOST_OF_CALLS = {"bl, add, ret, subs, b.ne": 114, "bl, ret, subs, b.ne": 118, "adr, blr, ret, subs, b.ne": 108, "a call in each 18": 102}
 # the way to an address that is not met may need so many times what a run needs
 MOST_OF_RUN = 1.5
 VALGRIND = ["valgrind", "--tool=callgrind", "--callgrind-out-file=/dev/null"]
