@@ -74,4 +74,4 @@ cond_some_parts true o x e = (refl, e)
 cond_some_parts false o x e = cc
 
 -- what options and results are of which something is known, as one set
-pub ruleset option_parts = (same_Ok, same_Err, is_some-false, option_or-none, neither_some, either_some, option_map-none, cond_none, cond_some_parts)
+pub ruleset option_parts = (same_Ok, same_Err, is_some-false, option_or-none, neither_some, either_some, cond_none, cond_some_parts)
