@@ -72,3 +72,6 @@ cond_none false x o e = refl
 pub cond_some_parts : {A : Type 0} (b : Bool) (o : Option A) (x : A) → cond b o None ≡ Some x → (b ≡ true) × (o ≡ Some x)
 cond_some_parts true o x e = (refl, e)
 cond_some_parts false o x e = cc
+
+-- what options and results are of which something is known, as one set
+pub ruleset option_parts = (same_Ok, same_Err, is_some-false, option_or-none, neither_some, either_some, cond_none, cond_some_parts)

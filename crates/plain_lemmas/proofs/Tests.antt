@@ -80,3 +80,6 @@ eq_by_cmp-above k n lt = grind (arith, nat_tests)
 
 pub is_lt-true : (k n : ℕ) → is_lt (nat_cmp k n) ≡ true → k < n
 is_lt-true k n e = grind (arith, nat_tests)
+
+-- what the parts of a test are, as one set
+pub ruleset test_parts = (and_first, and_second, and-false, or-false, or_first, or_second, or_resolve_left, implied, not_both)

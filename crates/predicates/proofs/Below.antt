@@ -2,7 +2,7 @@
 use Rattle.std.proofs.Common.{◌≡◌, ◌≢◌, ℕ, ◌+◌, ◌-◌, ◌*◌, ◌/◌, ◌%◌, ◌^◌, ◌<◌, ◌≤◌, min, ◌∙◌, sym, ap, ap₂, arith}
 use Rattle.std.proofs.Common.{◌==◌, ◌&&◌, Bool, true, false, List, [], ◌∷◌, length, refl, bit_and, slice_index}
 use Rattle.std.proofs.Common.{get_or, set, slice_set, get_or-set_same, get_or-set_other, inl, inr, nat_lt}
-use Rattle.std.proofs.lemmas.Bool.{cases_lt, cases_eq}
+use Rattle.std.proofs.lemmas.Bool.{cases_lt, cases_eq, ne_eqb}
 use Rattle.std.proofs.lemmas.Bool.Decides.{nat_tests}
 use Rattle.vector_elements.specs.declared.size.Size.{Size}
 use Rattle.vector_elements.specs.declared.size.Size.TheVariants.{B, H, S, D}
@@ -11,7 +11,6 @@ use Rattle.vector_elements.specs.Elements.{bit_of}
 use Rattle.vector_elements.specs.Numbers.{bytes_in}
 use Rattle.vector_elements.proofs.Spreads.{all_below, all_below-at, is_same, same}
 use Rattle.predicates.specs.Predicates.{bit_for}
-use Rattle.predicates.proofs.Bits.{not_zero}
 use Rattle.predicates.proofs.Gathered.{lowest, joined_bit, in_element}
 
 -- the bytes of which so many of the lowest bits are set
@@ -90,6 +89,6 @@ below_bit size limit n end pd is all j below = elim (cases_eq (j % bytes_in size
       all j below
       ∙ ap (λ b. (j % bytes_in size == 0) && b) (ap (nat_lt j) is ∙ before_end size limit n j below first)
   | inr other ↦
-      let none : (j % bytes_in size == 0) ≡ false = not_zero _ other in
+      let none : (j % bytes_in size == 0) ≡ false = ne_eqb _ 0 other in
       all j below ∙ ap (λ b. b && nat_lt j end) none ∙ sym (ap (λ b. b && nat_lt (j / bytes_in size) limit) none)
 ]
