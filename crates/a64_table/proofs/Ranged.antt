@@ -86,9 +86,10 @@ module _ (w : ℕ) where
       → register RN ≢ 31 → (register RN ≢ register RT) × (register RN ≢ register RT2)
   written_apart f n =
       let rn = uncut RN w (omega arith) in
-      let both = and_parts _ _ (or_else _ _ f (λ e. n (rn ∙ eqb-true _ _ e))) in
-      (λ e. ne_from_not_eqb _ _ both.0 (sym rn ∙ e ∙ uncut RT w (omega arith)),
-       λ e. ne_from_not_eqb _ _ both.1 (sym rn ∙ e ∙ uncut RT2 w (omega arith)))
+      let both = and_parts _ _ (or_else _ _ f (λ e. n (rn ∙ eqb-true _ _ e))) in (
+        λ e. ne_from_not_eqb _ _ both.0 (sym rn ∙ e ∙ uncut RT w (omega arith)),
+        λ e. ne_from_not_eqb _ _ both.1 (sym rn ∙ e ∙ uncut RT2 w (omega arith)),
+      )
 
   pair_apart : (index : PairIndex) → is_pair_apart index (field_in RN w) (field_in RT w) (field_in RT2 w) ≡ true → index ≢ Offset
       → register RN ≢ 31 → (register RN ≢ register RT) × (register RN ≢ register RT2)

@@ -225,12 +225,12 @@ one_place p Q never (x ∷ rs) e zero zero r s f g q h = refl
 one_place {R = R} p Q never (x ∷ rs) e zero (suc j) r s f g q h =
     let same : x ≡ r = cc in
     absurd (never r s (subst (λ (y : R). p y s ≡ true) same
-        (list_all-get (p x) rs j s (and_parts (list_all (p x) rs) (pairwise p rs) e).0 g)) q
+    (list_all-get (p x) rs j s (and_parts (list_all (p x) rs) (pairwise p rs) e).0 g)) q
     h)
 one_place {R = R} p Q never (x ∷ rs) e (suc i) zero r s f g q h =
     let same : x ≡ s = cc in
     absurd (never s r (subst (λ (y : R). p y r ≡ true) same
-        (list_all-get (p x) rs i r (and_parts (list_all (p x) rs) (pairwise p rs) e).0 f)) h
+    (list_all-get (p x) rs i r (and_parts (list_all (p x) rs) (pairwise p rs) e).0 f)) h
     q)
 one_place p Q never (x ∷ rs) e (suc i) (suc j) r s f g q h =
     ap suc (one_place p Q never rs (and_parts (list_all (p x) rs) (pairwise p rs) e).1 i j r s f g q h)
