@@ -68,6 +68,18 @@ pub none-yet : (size : Size) (pg bytes : List ℕ) → map (element_of (bytes_in
 unfolding active_places
 none-yet size pg bytes = refl
 
+-- one of two numbers, each of which fits
+pub chosen_fits : (test : Bool) (x y chosen n : ℕ) → chosen ≡ (if test then x else y) → x < n → y < n → chosen < n
+chosen_fits true x y chosen n is first other = omega (arith, is, first)
+chosen_fits false x y chosen n is first other = omega (arith, is, other)
+
+-- an element that is not active is not joined
+pub joined_where : (gives : List ℕ → ℕ) (xs : List ℕ) (active : Bool) (x joined total chosen : ℕ)
+    → chosen ≡ (if active then joined else total) → total ≡ gives xs → joined ≡ gives (xs ++ x ∷ [])
+    → chosen ≡ gives (xs ++ (if active then x ∷ [] else []))
+joined_where gives xs true x joined total chosen is so_far more = is ∙ more
+joined_where gives xs false x joined total chosen is so_far more = is ∙ so_far ∙ ap gives (sym (append-nil xs))
+
 -- the last active place is the last that was looked at
 pub last_found : (size : Size) (pg : List ℕ) (none k : ℕ) → is_active (bytes_in size) pg k ≡ true
     → last_or none (active_places size pg (k + 1)) ≡ k

@@ -3,7 +3,7 @@ use Rattle.vector_elements.specs.Elements.{element_of, bit_of}
 use Rattle.vector_elements.specs.Numbers.{bytes_in}
 use Rattle.sve_perm.specs.Active.{active_places}
 use Rattle.sve_perm.proofs.Sums.{none-yet, elements-more, all-joined}
-use Rattle.sve_perm.proofs.reductions.reduce_active.Goals as goal
+use Rattle.sve_perm.proofs.reductions.reduce_each.Goals as goal
 
 pub loop-i-init : goal.loop-i-init
 loop-i-init g c = (

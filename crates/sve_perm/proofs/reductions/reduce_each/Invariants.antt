@@ -2,7 +2,7 @@ use Rattle.std.proofs.Common.{◌≡◌, ◌<◌, map}
 use Rattle.vector_elements.specs.Elements.{element_of}
 use Rattle.vector_elements.specs.Numbers.{bytes_in, range_of}
 use Rattle.sve_perm.specs.Active.{active_places}
-use Rattle.sve_perm.proofs.reductions.reduce_active.Given as goal
+use Rattle.sve_perm.proofs.reductions.reduce_each.Given as goal
 
 abbrev pub invariant-loop-i : goal.invariant-loop-i
 invariant-loop-i g l =
