@@ -1,6 +1,6 @@
 -- Instructions that neither read PC nor branch do the same whatever PC is, and move it on by 4.
-use Rattle.std.proofs.Common.{◌≡◌, ℕ, ◌+◌, ◌-◌, ◌%◌, ◌^◌, ◌==◌, ◌<◌, ◌≤◌, Bool, true, false, cond, refl, sym, ap, ◌∙◌, IsTrue, slice_set, arith}
-use Rattle.std.proofs.Common.{ℤ, pos, ◌*ℤ◌, add_assoc, mod-eq_of_lt}
+use Rattle.std.proofs.Common.{◌≡◌, ℕ, ◌+◌, ◌-◌, ◌%◌, ◌^◌, ◌==◌, ◌<◌, Bool, true, false, cond, refl, sym, ap, ◌∙◌, IsTrue}
+use Rattle.std.proofs.Common.{slice_set, arith, ℤ, pos, ◌*ℤ◌, add_assoc, mod-eq_of_lt}
 use Rattle.std.specs.Int.{w64, cast_unsigned}
 use Rattle.std.proofs.Math.Nat.{add-mod-mod, mod-add-mod, add-mod_right}
 use Rattle.sm_types.specs.declared.scalars.Scalars.{Scalars}
@@ -29,7 +29,8 @@ use Rattle.scalar_exec.specs.Sums.{sum_to_x, sum_to_sp, add_sub_immediate, add_s
 use Rattle.scalar_exec.specs.Operands.{inverted, extend_reg}
 use Rattle.scalar_exec.specs.Logic.{logical_flags, logical_to_x, logical_to_sp, logical_register, logical_immediate}
 use Rattle.scalar_exec.specs.Moves.{moved, move_wide, bitfield_move, extract}
-use Rattle.scalar_exec.specs.Conditional.{condition_holds, otherwise, conditional_select, conditional_compare, compared, compare_flags, flags_of}
+use Rattle.scalar_exec.specs.Conditional.{condition_holds, otherwise, conditional_select, conditional_compare, compared}
+use Rattle.scalar_exec.specs.Conditional.{compare_flags, flags_of}
 use Rattle.scalar_exec.specs.Branches.{branch_target, at_address, branch_if, branch, branch_to, relative_address, pc_relative}
 use Rattle.scalar_exec.specs.Sources.{one_source, two_source, multiply}
 use Rattle.scalar_exec.specs.Step.{scalar_step}
@@ -88,7 +89,8 @@ moved-pc Movn x p s = refl
 moved-pc Movz x p s = refl
 moved-pc Movk x p s = refl
 
-pub holds_any : (condition : Condition) (p : ℕ) (s : Scalars) → condition_holds condition (record s { pc = p }) ≡ condition_holds condition s
+pub holds_any : (condition : Condition) (p : ℕ) (s : Scalars)
+    → condition_holds condition (record s { pc = p }) ≡ condition_holds condition s
 unfolding condition_holds
 holds_any condition.Eq p s = refl
 holds_any condition.Ne p s = refl
@@ -143,7 +145,9 @@ on p old new e = ap past e
 
 step_apart : (it : Insn) (p : ℕ) (s : Scalars) → IsTrue (is_apart it)
     → scalar_step it (at_pc p s) ≡ at_pc (next_address p) (scalar_step it s)
-unfolding scalar_step x_of x_or_sp add_sub_immediate add_sub_register add_sub_extended add_sub_carry extend_reg logical_register logical_immediate move_wide bitfield_move extract conditional_select conditional_compare one_source two_source with_flags
+unfolding scalar_step x_of x_or_sp add_sub_immediate add_sub_register add_sub_extended add_sub_carry extend_reg
+    logical_register logical_immediate move_wide bitfield_move extract conditional_select conditional_compare
+    one_source two_source with_flags
 step_apart (insn.AddSubImmediate x) p s h = on p _ _ (sum_to_sp-pc x.op x.wide x.rd _ _ p s)
 step_apart (insn.AddSubRegister x) p s h = on p _ _ (sum_to_x-pc x.op x.wide x.rd _ _ _ p s)
 step_apart (insn.LogicalRegister x) p s h = on p _ _ (logical_to_x-pc x.op x.wide x.rd _ p s)
@@ -154,7 +158,8 @@ step_apart (insn.BitfieldMove x) p s h = on p _ _ (with_x-pc p x.rd _ s)
 step_apart (insn.Extract x) p s h = on p _ _ (with_x-pc p x.rd _ s)
 step_apart (insn.AddSubCarry x) p s h = on p _ _ (sum_to_x-pc x.op x.wide x.rd _ _ _ p s)
 step_apart (insn.ConditionalSelect x) p s h =
-    on p _ _ (ap (λ (b : Bool). with_x (at_pc p s) x.rd (cond b (register_of x.wide s x.rn) (otherwise x.op x.wide (register_of x.wide s x.rm)))) (holds_any x.condition p s) ∙ with_x-pc p x.rd _ s)
+    on p _ _ (ap (λ (b : Bool). with_x (at_pc p s) x.rd (cond b (register_of x.wide s x.rn)
+    (otherwise x.op x.wide (register_of x.wide s x.rm)))) (holds_any x.condition p s) ∙ with_x-pc p x.rd _ s)
 step_apart (insn.ConditionalCompare x) p s h =
     on p _ _ (ap (λ (b : Bool). with_flags (at_pc p s) (cond b (compare_flags x.op x.wide (register_of x.wide s x.rn)
     (compared x.operand x.wide (at_pc p s))) (flags_of x.nzcv))) (holds_any x.condition p s)

@@ -129,7 +129,7 @@ flat_insn (flat.CallTo rn) = Some (insn.BranchRegister (record { op = Blr; rn = 
 flat_insn (flat.Return rn) = Some (insn.BranchRegister (record { op = Ret; rn = rn }))
 flat_insn (flat.Address rd imm) = Some (insn.PcRelative (record { op = Adr; imm = imm; rd = rd }))
 flat_insn (flat.PageAddress rd imm) = Some (insn.PcRelative (record { op = Adrp; imm = imm; rd = rd }))
-flat_insn other = None
+flat_insn _ = None
 
 -- a load of one register
 abbrev pub is_loaded_by : LoadStoreOp → Bool
@@ -178,7 +178,7 @@ flat_rest (flat.LoadPairAt x) it = Some (pair_at Ldp x)
 flat_rest (flat.StorePairAt x) it = Some (pair_at Stp x)
 flat_rest flat.Scalar it = cond (is_scalar it) (Some it) None
 flat_rest flat.Other it = Some it
-flat_rest other it = None
+flat_rest _ _ = None
 
 -- the first of two that is there
 abbrev pub first_of : Option Insn → Option Insn → Option Insn

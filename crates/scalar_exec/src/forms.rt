@@ -7,6 +7,7 @@ ghost use Rattle.scalar_exec.specs.Forms.{unshifted, sum_immediate, sum_register
 ghost use Rattle.scalar_exec.specs.Forms.{logical, logical_shifted, masked, halfword_move, field_move};
 ghost use Rattle.scalar_exec.specs.Forms.{selected, compared, compared_immediate, two_sources, product};
 ghost use Rattle.scalar_exec.specs.Forms.{long_product, high_product};
+ghost use Rattle.scalar_exec.specs.Forms.{offset_access, access_of, pair_of, pair_at};
 
 use crate::apart::{
     step_add_sub_extended, step_add_sub_immediate, step_add_sub_register, step_bitfield_move,
@@ -15,15 +16,16 @@ use crate::apart::{
     step_two_source,
 };
 use crate::payloads::{
-    BitFields, Comparison, Extended, Factors, Halfword, Immediate, LeftShifted, Registers,
-    Selection, Shifted,
+    Base, BitFields, Comparison, Extended, Factors, Halfword, Immediate, IndexedPair, LeftShifted,
+    OffsetAccess, Pair, Registers, Selection, Shifted,
 };
 use sm_types::{
-    AddSub, AddSubExtended, AddSubImmediate, AddSubRegister, BitfieldMove, BitfieldOp, Branch,
-    BranchRegister, BranchRegisterOp, CompareOp, CompareOperand, Condition, ConditionalCompare,
-    ConditionalSelect, ExtendedRegister, Logical, LogicalImmediate, LogicalRegister, MoveOp,
-    MoveWide, Multiply, PcRelative, PcRelativeOp, Scalars, SelectOp, ShiftKind, ShiftedRegister,
-    TwoSource, TwoSourceOp,
+    AccessSize, AddSub, AddSubExtended, AddSubImmediate, AddSubRegister, Address, BitfieldMove,
+    BitfieldOp, Branch, BranchRegister, BranchRegisterOp, CompareOp, CompareOperand, Condition,
+    ConditionalCompare, ConditionalSelect, ExtendedRegister, LoadStore, LoadStoreOp, LoadStorePair,
+    Logical, LogicalImmediate, LogicalRegister, MoveOp, MoveWide, Multiply, PairIndex, PairOp,
+    PcRelative, PcRelativeOp, Scalars, SelectOp, ShiftKind, ShiftedRegister, TwoSource,
+    TwoSourceOp,
 };
 
 /// A register that is not shifted.
@@ -411,4 +413,64 @@ pub fn write_address(s: &mut Scalars, base: u64, at: u64, op: PcRelativeOp, imm:
     ensures { Steps (insn.PcRelative (record { op = op; imm = imm; rd = rd })) base at result s.old s.new }
 {
     step_pc_relative(s, &PcRelative { op, imm, rd }, base, at)
+}
+
+/// A load or store of one register at an offset.
+#[inline(always)]
+pub fn offset_access(op: LoadStoreOp, size: AccessSize, x: OffsetAccess) -> LoadStore
+    ensures { insn.LoadStore result ≡ offset_access op size x }
+{
+    LoadStore {
+        op,
+        size,
+        address: Address::Offset { imm: x.imm },
+        rn: x.rn,
+        rt: x.rt,
+    }
+}
+
+/// A load or store of one register.
+#[inline(always)]
+pub fn access_of(op: LoadStoreOp, size: AccessSize, x: Base, address: Address) -> LoadStore
+    ensures { insn.LoadStore result ≡ access_of op size x address }
+{
+    LoadStore {
+        op,
+        size,
+        address,
+        rn: x.rn,
+        rt: x.rt,
+    }
+}
+
+/// A load or store of two registers of 64 bits.
+#[inline(always)]
+pub fn pair_of(op: PairOp, index: PairIndex, x: Pair) -> LoadStorePair
+    ensures { insn.LoadStorePair result ≡ pair_of op index x }
+{
+    LoadStorePair {
+        op,
+        wide: true,
+        index,
+        offset: x.offset,
+        rn: x.rn,
+        rt: x.rt,
+        rt2: x.rt2,
+    }
+}
+
+/// The same, with what becomes of the base.
+#[inline(always)]
+pub fn pair_at(op: PairOp, x: IndexedPair) -> LoadStorePair
+    ensures { insn.LoadStorePair result ≡ pair_at op x }
+{
+    LoadStorePair {
+        op,
+        wide: true,
+        index: x.index,
+        offset: x.offset,
+        rn: x.rn,
+        rt: x.rt,
+        rt2: x.rt2,
+    }
 }

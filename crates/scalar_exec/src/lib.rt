@@ -25,6 +25,7 @@ pub use branches::{address_at, branch_target};
 pub use exec::{Flow, exec_scalar};
 pub use flat::{Flat, exec_at, exec_next, flat_means};
 pub use flat_of::flatten;
+pub use forms::{access_of, offset_access, pair_at, pair_of};
 pub use operands::{extend, extend_sign};
 pub use payloads::{
     Base, BitFields, Comparison, Extended, Factors, Halfword, Immediate, IndexedPair, LeftShifted,

@@ -14,7 +14,8 @@ returns c =
     let le : imms + 1 ≤ 31 = omega (arith, c.requires.imms) in
     let few : 2 ^ (imms + 1) ≤ 2 ^ 31 = pow-le-pow_right {n = 2} (lit≤ tt) le in
     let high = c.shifted_field.ensures.small in
-    let turned : c.rotate_right.result ≡ rotate_right w64 word immr = c.rotate_right.ensures ∙ ap (rotate_right w64 word) c.from-2.ensures in
+    let turned : c.rotate_right.result ≡ rotate_right w64 word immr =
+    c.rotate_right.ensures ∙ ap (rotate_right w64 word) c.from-2.ensures in
     c.low_word.ensures.value ∙ ap (λ k. k % 2 ^ 32) turned
     ∙ short_is imms immr word c.requires.imms c.requires.immr
     (ap (λ k. k + ones) c.shifted_field.ensures.value ∙ ap (λ k. (k - 1) * 2 ^ 32 + (k - 1)) one) (omega (arith, one, few, high))
