@@ -1,14 +1,14 @@
 #!/usr/bin/env python3
 """Counts the processor's instructions for one guest instruction of some loops, by valgrind, beside those of the released program.
 
-    bench/count.py [--only TEXT] [PROGRAM]
+    bench/count.py [--more] [--only TEXT] [PROGRAM]
     bench/count.py --check [PROGRAM]
     bench/count.py --store [PROGRAM]
 
 PROGRAM is the emulator, by default the one that ./smemu --build makes, and where there is none the released one. --only takes the loops of
-bench/loops.py whose names have a text. Each loop is run up to two budgets; the figure is the difference of what the processor needed, for one
-guest instruction of the difference. So polls are in it, and start and report are not. Other than a time it is the same whatever else the
-machine does; it says nothing of waiting for memory.
+bench/loops.py whose names have a text, and --more those of one vector instruction too. Each loop is run up to two budgets; the figure is the
+difference of what the processor needed, for one guest instruction of the difference. So polls are in it, and start and report are not. Other
+than a time it is the same whatever else the machine does; it says nothing of waiting for memory.
 
 --check compares the figures with those of bench/counts.txt: more than a tenth above is a fault. So is an abi-check of more than 1.3 times what
 the replay of the same loop needs, where that makes no calls, or above a limit where it does; and a `break` at an address that is not met that
@@ -28,7 +28,7 @@ import tempfile
 TOP = pathlib.Path(__file__).resolve().parent.parent
 sys.path[:0] = [str(TOP / folder) for folder in ("bench", "examples", "tools")]
 sys.dont_write_bytecode = True
-from loops import ABI_CHECKED, ANSWERED, CHECKED, LOOPS, REPLAYED, SEARCHED, UNMET
+from loops import ABI_CHECKED, ANSWERED, CHECKED, LOOPS, MORE, REPLAYED, SEARCHED, UNMET
 from release import BUILT, released, stated
 
 STORED = TOP / "bench" / "counts.txt"
@@ -67,7 +67,7 @@ def over_report(command, budget, script, path, report):
 
 def figure(program, name):
     """How many instructions of the processor a program needs for one of a loop."""
-    loop, counts = LOOPS[name], []
+    loop, counts = {**LOOPS, **MORE}[name], []
     with tempfile.TemporaryDirectory() as folder:
         path, source, report = (pathlib.Path(folder) / part for part in ("loop.elf", "loop.s", "loop.report"))
         code = loop.code
@@ -84,9 +84,9 @@ def figure(program, name):
     return (counts[1] - counts[0]) / (loop.budgets[1] - loop.budgets[0])
 
 
-def figures(program, text=""):
+def figures(program, text="", more=False):
     """The figures of a program by the names of the loops that have a text."""
-    names = [name for name in LOOPS if text in name]
+    names = [name for name in (*LOOPS, *(MORE if more else ())) if text in name]
     with concurrent.futures.ThreadPoolExecutor(len(os.sched_getaffinity(0))) as pool:
         return dict(zip(names, pool.map(lambda name: figure(program, name), names)))
 
@@ -102,7 +102,7 @@ def put_released(folder):
 
 def show(words, program, folder):
     """Prints the figures of a program beside those of the release."""
-    now, before = figures(program, words.only), figures(put_released(folder), words.only)
+    now, before = figures(program, words.only, words.more), figures(put_released(folder), words.only, words.more)
     print(f"{'instructions of the processor for one of':55}{'now':>10}{'released':>10}{'ratio':>8}")
     for name in now:
         print(f"{name:55}{now[name]:10.1f}{before[name]:10.1f}{now[name] / before[name]:8.2f}")
@@ -146,6 +146,7 @@ def main():
     what = words.add_mutually_exclusive_group()
     what.add_argument("--check", dest="act", action="store_const", const=check, default=show)
     what.add_argument("--store", dest="act", action="store_const", const=store)
+    words.add_argument("--more", action="store_true")
     words.add_argument("--only", default="", metavar="TEXT")
     words.add_argument("program", nargs="?", type=pathlib.Path, metavar="PROGRAM")
     words = words.parse_args()

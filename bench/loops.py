@@ -121,3 +121,15 @@ LOOPS = {
     SEARCHED + ANSWERED: LITTLE[SEARCHED]._replace(command="debug"),
     SEARCHED + UNMET: LITTLE[SEARCHED]._replace(command="break"),
 }
+
+# instructions of vectors and predicates, of which eight make a loop with `subs` and `b.ne`; these are printed where it is asked for
+VECTORS = {
+    "add": "add z1.b, z0.b, z2.b", "add, merging": "add z1.s, p1/m, z1.s, z2.s", "mla": "mla z3.s, p1/m, z0.s, z2.s", "zip1": "zip1 z4.h, z0.h, z1.h",
+    "sel": "sel z5.s, p1, z4.s, z3.s", "eor": "eor z3.d, z1.d, z2.d", "asr": "asr z3.s, z3.s, #3", "cmphs": "cmphs p2.b, p1/z, z4.b, z0.b",
+    "ptrue": "ptrue p2.b, all", "whilelo": "whilelo p2.b, xzr, x9", "uaddv": "uaddv d5, p1, z1.b", "ld1w": "ld1w {z1.s}, p1/z, [x10]",
+    "st1w": "st1w {z1.s}, p1, [x10]", "ldr of a vector": "ldr z1, [x10]", "str of a vector": "str z1, [x10]",
+}
+ZA = {"mova from ZA": "mova z1.s, p1/m, za0h.s[w12, 0]", "smopa of bytes": "smopa za0.s, p1/m, p1/m, z0.b, z2.b", "smopa of halfwords": "smopa za0.d, p1/m, p1/m, z0.h, z2.h"}
+MORE = {f"{name}, {length} bits": Loop(source_of("; ".join([line] * 8), first + "adr x10, page"), TURNS[10], (option, length))
+        for several, first, option in ((VECTORS, f"{MIX_FIRST}; ", "--vl"), (ZA, f"smstart; {MIX_FIRST}; ", "--svl"))
+        for name, line in several.items() for length in (128, 2048)}
