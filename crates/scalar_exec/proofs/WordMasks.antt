@@ -4,9 +4,7 @@ use Rattle.std.proofs.Common.{mod-eq_of_lt}
 use Rattle.std.proofs.lemmas.Bool.{and_parts, or_parts, ltb-true, eqb-false}
 use Rattle.std.proofs.lemmas.Nat.{mod_below}
 use Rattle.std.specs.Int.{rotate_right, w64}
-use Rattle.bit_ops.specs.Bits.{digit_at}
-use Rattle.bit_ops.specs.Sums.{bool_number, word_size}
-use Rattle.bit_ops.specs.Masks.{length_of, size_of, ones_of, mask_of, are_mask_fields, is_reserved}
+use Rattle.bit_ops.specs.Masks.{length_of, size_of, mask_of, are_mask_fields, is_reserved}
 use Rattle.bit_ops.proofs.MaskBits.{highest_one-is, first_run, next_run, IsRun, mask-is}
 
 not_true : (b : Bool) → not b ≡ true → b ≡ false

@@ -1,5 +1,5 @@
 -- Instructions by what is known in advance and the other fields.
-use Rattle.std.specs.Prelude.{ℕ, ℤ, Bool, true, false}
+use Rattle.std.specs.Prelude.{ℕ, Bool, true, false}
 use Rattle.sm_types.specs.declared.insn as types
 use types.{Insn.Insn, AddSub.AddSub, Logical.Logical, MoveOp.MoveOp, BitfieldOp.BitfieldOp, SelectOp.SelectOp}
 use types.{TwoSourceOp.TwoSourceOp, ShiftedRegister.ShiftedRegister, Address.Address}
