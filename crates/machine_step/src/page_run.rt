@@ -37,8 +37,8 @@ pub(crate) enum Next {
     Halts(u32),
 }
 
-/// Whether a distance from the base of a page is that of one of its words: it is below 4096, and a multiple of
-/// 4, which is one test of these bits.
+/// Whether a distance from the base of a page is that of one of its words: it is below 4096, and a multiple
+/// of 4, which is one test of these bits.
 #[inline(always)]
 fn is_word_place(at: u64) -> bool
     ensures within { result ≡ true → at < 4096 }
@@ -95,8 +95,8 @@ fn act_known<H: Halts>(
 }
 
 impl Machine {
-    /// Executes instructions of the page of PC that are known and read and write registers alone, or load one,
-    /// `most` at most, and tells how many, and what is known of the next one.
+    /// Executes instructions of the page of PC that are known and read and write registers alone, or load
+    /// one, `most` at most, and tells how many, and what is known of the next one.
     #[inline(always)]
     fn run_page<H: Halts>(
         &mut self,
@@ -110,8 +110,8 @@ impl Machine {
         ensures executed { AreExecuted (H.halts halts.now) apart (vector_bytes bank.old.vectors.vl) result.0
             (core_of self.old (bank_state bank.old)) (core_of self.new (bank_state bank.new)) }
         ensures few { result.0 ≤ most }
-        ensures next { Follows (H.halts halts.now) self.new.pages.memory decoder.now.places.items self.new.scalars
-            result.1 }
+        ensures next { Follows (H.halts halts.now) self.new.pages.memory decoder.now.places.items
+            self.new.scalars result.1 }
         ensures pages { self.new.pages ≡ self.old.pages }
         ensures same { IsSameBank bank.old bank.new }
         ensures mode { IsInMode bank.new self.new }
@@ -147,8 +147,8 @@ impl Machine {
         ensures executed { AreExecuted (H.halts halts.now) apart (vector_bytes bank.old.vectors.vl) result.0
             (core_of self.old (bank_state bank.old)) (core_of self.new (bank_state bank.new)) }
         ensures few { result.0 ≤ most }
-        ensures next { Follows (H.halts halts.now) self.new.pages.memory decoder.now.places.items self.new.scalars
-            result.1 }
+        ensures next { Follows (H.halts halts.now) self.new.pages.memory decoder.now.places.items
+            self.new.scalars result.1 }
         ensures owned { KeepsOwned self.old.pages self.new.pages }
         ensures same { IsSameBank bank.old bank.new }
         ensures mode { IsInMode bank.new self.new }
