@@ -73,7 +73,8 @@ scalars_acted apart vl word s old new aligned fetched made =
     elim made [
       | inl scalar ↦ (
         effect_of_word vl before word (Some scalar.it) aligned fetched scalar.means
-            ∙ scalar_effect word vl scalar.it before scalar.scalar ∙ ap (λ (k : Scalars). Becomes (record s { scalars = k })) (sym scalar.is),
+            ∙ scalar_effect word vl scalar.it before scalar.scalar
+            ∙ ap (λ (k : Scalars). Becomes (record s { scalars = k })) (sym scalar.is),
         ap (λ (k : Bool). apart && k) (needs_of_word before word (Some scalar.it) aligned fetched scalar.means
             ∙ unneeded scalar.it before (scalar_apart scalar.it before.streaming scalar.scalar)) ∙ and_false apart,
       )

@@ -1,6 +1,6 @@
 -- Instructions of a page of code that read and write registers alone, or load one, one after the other.
-use Rattle.std.specs.Prelude.{◌≡◌, ℕ, zero, suc, ◌%◌, ◌⊎◌, ◌&&◌, Bool, true}
-use Rattle.std.specs.Prelude.{false, not, Some, None, IsTrue, length}
+use Rattle.std.specs.Prelude.{◌≡◌, ℕ, zero, suc, ◌%◌, ◌⊎◌, ◌&&◌, Bool, true, false}
+use Rattle.std.specs.Prelude.{not, Option, Some, None, IsTrue, length}
 use Rattle.sm_types.specs.declared.insn.Insn.{Insn}
 use Rattle.sm_types.specs.declared.scalars.Scalars.{Scalars}
 use Rattle.scalar_exec.specs.Step.{is_scalar, scalar_step}
@@ -8,6 +8,7 @@ use Rattle.paged_memory.specs.Memory.{AddressSpace, word_at}
 use Rattle.a64_encode.specs.Either.{instruction_of}
 use Rattle.scalar_exec.specs.Registers.{past}
 use Rattle.scalar_exec.specs.Flat.{is_plain_load}
+use Rattle.scalar_exec.specs.Apart.{at_distance}
 use Rattle.mem_access.specs.SharedAccess.{touched}
 use Rattle.mem_access.specs.Transfer.{transfer_fault, after_access}
 use Rattle.mem_access.specs.declared.bank.Bank.{Bank}
@@ -95,6 +96,13 @@ IsActed apart m word old before new after =
 abbrev pub ActsOn : Bool → AddressSpace → ℕ → Scalars → Bank → Scalars → Bank → Bool → Type 0
 ActsOn apart m word old before new after true = IsActed apart m word old before new after
 ActsOn apart m word old before new after false = (new ≡ old) × (after ≡ before)
+
+-- an answer, with PC at a distance from an address: it is executed, and so far is the next one; or nothing
+-- has changed, and PC is there
+abbrev pub ActsTo : Bool → AddressSpace → ℕ → ℕ → ℕ → Scalars → Bank → Option ℕ → Scalars → Bank → Type 0
+ActsTo apart m word base at old before (Some next) new after =
+    IsActed apart m word (at_distance base at old) before (at_distance base next new) after
+ActsTo apart m word base at old before None new after = (new ≡ at_distance base at old) × (after ≡ before)
 
 -- the instruction at PC does, and it is none to halt before
 pub record IsComputedIn (halts : ℕ → ℕ → Bool) (apart : Bool) (m : AddressSpace) (old : Scalars)
