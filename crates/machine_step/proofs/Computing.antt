@@ -12,7 +12,7 @@ use Rattle.machine_step.specs.Computed.{AreComputed, IsComputed, IsLoaded, IsCom
 use Rattle.sm_types.specs.declared.length.VecLen.{VecLen}
 use Rattle.sm_types.specs.declared.vector.PredicateCount.TheVariants.{While, Active}
 use Rattle.sve_table.specs.Groups.{is_vector_group}
-use Rattle.sve_vectors.specs.State.{SveState, length_of, with_registers}
+use Rattle.sve_vectors.specs.State.{SveState, length_of}
 use Rattle.vector_step.specs.Core.{core_of as vector_registers}
 use Rattle.vector_step.specs.Step.{is_vector_computed, vector_step}
 use Rattle.mem_access.specs.Bank.{bank_state}
@@ -73,7 +73,8 @@ scalars_acted apart vl word s old new aligned fetched made =
     elim made [
       | inl scalar ↦ (
         effect_of_word vl before word (Some scalar.it) aligned fetched scalar.means
-            ∙ scalar_effect word vl scalar.it before scalar.scalar ∙ ap (λ (k : Scalars). Becomes (record s { scalars = k })) (sym scalar.is),
+            ∙ scalar_effect word vl scalar.it before scalar.scalar
+            ∙ ap (λ (k : Scalars). Becomes (record s { scalars = k })) (sym scalar.is),
         ap (λ (k : Bool). apart && k) (needs_of_word before word (Some scalar.it) aligned fetched scalar.means
             ∙ unneeded scalar.it before (scalar_apart scalar.it before.streaming scalar.scalar)) ∙ and_false apart,
       )

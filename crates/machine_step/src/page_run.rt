@@ -1,7 +1,6 @@
 //! Instructions of one page of code that is held: those that are known, and that read and write registers
 //! alone or make one access.
 ghost use Rattle.std.specs.Prelude.{◌≡◌, ◌&&◌, ◌%◌, ◌<◌, ◌≤◌, Bool, IsTrue, Some, false, true, length};
-ghost use Rattle.sm_types.specs.declared.insn.Insn.TheVariants as insn;
 ghost use Rattle.a64_encode.specs.Either.{instruction_of};
 ghost use Rattle.mem_access.specs.Transfer.{is_access};
 ghost use Rattle.paged_memory.specs.Memory.{bytes_with, word_at};
@@ -37,8 +36,8 @@ pub(crate) enum Next {
     Halts(u32),
 }
 
-/// Whether a distance from the base of a page is that of one of its words: it is below 4096, and a multiple of
-/// 4, which is one test of these bits.
+/// Whether a distance from the base of a page is that of one of its words: it is below 4096, and a multiple
+/// of 4, which is one test of these bits.
 #[inline(always)]
 fn is_word_place(at: u64) -> bool
     ensures within { result ≡ true → at < 4096 }
@@ -73,30 +72,35 @@ fn act_known<H: Halts>(
     ensures next { Follows (H.halts halts.now) pages.now.memory places.now s.new result.1 }
 {
     let mut left = most;
+    let mut at = s.pc.wrapping_sub(base);
     'turns: while left > 0 {
-        let at = s.pc.wrapping_sub(base);
         if !is_word_place(at) {
+            s.pc = base.wrapping_add(at);
             return (most - left, Next::Unknown);
         }
-        let at = at as usize;
-        let known = &places[at / 4];
-        if known.word() != word_of(code, at) {
+        let place = at as usize;
+        let known = &places[place / 4];
+        if known.word() != word_of(code, place) {
+            s.pc = base.wrapping_add(at);
             return (most - left, Next::Unknown);
         }
-        if halts.halts(s.pc, known.word()) {
+        if halts.halts(base.wrapping_add(at), known.word()) {
+            s.pc = base.wrapping_add(at);
             return (most - left, Next::Halts(known.word()));
         }
-        if !known.act_on(s, bank, pages, apart) {
-            return (most - left, Next::Kept(at / 4));
+        match known.act_at(s, bank, pages, base, at, apart) {
+            Some(next) => at = next,
+            None => return (most - left, Next::Kept(place / 4)),
         }
         left -= 1;
     }
+    s.pc = base.wrapping_add(at);
     (most - left, Next::Unknown)
 }
 
 impl Machine {
-    /// Executes instructions of the page of PC that are known and read and write registers alone, or load one,
-    /// `most` at most, and tells how many, and what is known of the next one.
+    /// Executes instructions of the page of PC that are known and read and write registers alone, or load
+    /// one, `most` at most, and tells how many, and what is known of the next one.
     #[inline(always)]
     fn run_page<H: Halts>(
         &mut self,
@@ -110,8 +114,8 @@ impl Machine {
         ensures executed { AreExecuted (H.halts halts.now) apart (vector_bytes bank.old.vectors.vl) result.0
             (core_of self.old (bank_state bank.old)) (core_of self.new (bank_state bank.new)) }
         ensures few { result.0 ≤ most }
-        ensures next { Follows (H.halts halts.now) self.new.pages.memory decoder.now.places.items self.new.scalars
-            result.1 }
+        ensures next { Follows (H.halts halts.now) self.new.pages.memory decoder.now.places.items
+            self.new.scalars result.1 }
         ensures pages { self.new.pages ≡ self.old.pages }
         ensures same { IsSameBank bank.old bank.new }
         ensures mode { IsInMode bank.new self.new }
@@ -147,8 +151,8 @@ impl Machine {
         ensures executed { AreExecuted (H.halts halts.now) apart (vector_bytes bank.old.vectors.vl) result.0
             (core_of self.old (bank_state bank.old)) (core_of self.new (bank_state bank.new)) }
         ensures few { result.0 ≤ most }
-        ensures next { Follows (H.halts halts.now) self.new.pages.memory decoder.now.places.items self.new.scalars
-            result.1 }
+        ensures next { Follows (H.halts halts.now) self.new.pages.memory decoder.now.places.items
+            self.new.scalars result.1 }
         ensures owned { KeepsOwned self.old.pages self.new.pages }
         ensures same { IsSameBank bank.old bank.new }
         ensures mode { IsInMode bank.new self.new }
@@ -183,17 +187,28 @@ impl Machine {
         ensures owned { KeepsOwned self.old.pages self.new.pages }
         ensures mode { KeepsMode self.old self.new }
     {
+        let word = known.word();
         match known.flat() {
-            Flat::StoreDoubleword { imm, rn, rt } => {
-                self.access_known(known.word(), &store_by(Address::Offset { imm }, rn, rt))
+            Flat::StoreDoubleword(x) => {
+                let address = Address::Offset { imm: x.imm };
+                self.access_known(word, &store_by(AccessSize::Doubleword, address, x.rn, x.rt))
             }
-            Flat::StoreNext { offset, rn, rt } => {
-                self.access_known(
-                    known.word(),
-                    &store_by(Address::PostIndex { offset }, rn, rt),
-                )
+            Flat::StoreWord(x) => {
+                let address = Address::Offset { imm: x.imm };
+                self.access_known(word, &store_by(AccessSize::Word, address, x.rn, x.rt))
             }
-            _ => Attempt::Waits,
+            Flat::StoreByte(x) => {
+                let address = Address::Offset { imm: x.imm };
+                self.access_known(word, &store_by(AccessSize::Byte, address, x.rn, x.rt))
+            }
+            Flat::StoreDoublewordAt(x, address) => {
+                self.access_known(word, &store_by(AccessSize::Doubleword, address, x.rn, x.rt))
+            }
+            _ => match known.insn() {
+                Insn::LoadStore(_) => self.access_by_call(word, known.insn()),
+                Insn::LoadStorePair(_) => self.access_by_call(word, known.insn()),
+                _ => Attempt::Waits,
+            },
         }
     }
 
@@ -212,14 +227,30 @@ impl Machine {
     {
         self.access_at_once(insn)
     }
+
+    /// The same by a call.
+    #[inline(never)]
+    fn access_by_call(&mut self, word: u32, insn: &Insn) -> Attempt
+        requires access { IsTrue (is_access insn.now) }
+        requires means { instruction_of word ≡ Some insn.now }
+        requires aligned { self.old.scalars.pc % 4 ≡ 0 }
+        requires fetched { word_at self.old.pages.memory self.old.scalars.pc ≡ Some word }
+        ensures effect { (bank : Bank) → AttemptsOn effect_of self.old bank self.new bank result }
+        ensures kept { (apart : Bool) (bank : VectorState)
+            → (apart && needs_bank (core_of self.old bank)) ≡ false }
+        ensures owned { KeepsOwned self.old.pages self.new.pages }
+        ensures mode { KeepsMode self.old self.new }
+    {
+        self.access_known(word, insn)
+    }
 }
 
-/// Stores 8 bytes.
+/// Stores a register.
 #[inline(always)]
-fn store_by(address: Address, rn: u8, rt: u8) -> Insn
-    ensures { result ≡ insn.LoadStore (record {
+fn store_by(size: AccessSize, address: Address, rn: u8, rt: u8) -> Insn
+    ensures { result ≡ Insn.LoadStore (record {
       op = LoadStoreOp.Store;
-      size = AccessSize.Doubleword;
+      size = size;
       address = address;
       rn = rn;
       rt = rt;
@@ -227,7 +258,7 @@ fn store_by(address: Address, rn: u8, rt: u8) -> Insn
 {
     Insn::LoadStore(LoadStore {
         op: LoadStoreOp::Store,
-        size: AccessSize::Doubleword,
+        size,
         address,
         rn,
         rt,

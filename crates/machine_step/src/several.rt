@@ -1,16 +1,12 @@
 //! Several instructions that are executed at once, one after the other, with no look at what else may be due.
-ghost use Rattle.std.specs.Prelude.{◌≡◌, ◌&&◌, ◌%◌, ℕ, Bool, IsTrue, IfOk, IfErr, Some, false};
-ghost use Rattle.sm_types.specs.declared.insn.Insn.TheVariants as insn;
-ghost use Rattle.a64_encode.specs.Either.{instruction_of};
-ghost use Rattle.mem_access.specs.Transfer.{is_access};
-ghost use Rattle.machine_step.specs.ProcessorState.{VectorState};
+ghost use Rattle.std.specs.Prelude.{◌≡◌, ◌&&◌, ◌%◌, ℕ, Bool, IfOk, IfErr, Some, false};
 ghost use Rattle.machine_step.specs.Next.{Follows};
 ghost use Rattle.paged_memory.specs.Memory.{word_at};
 ghost use Rattle.paged_memory.specs.PageTable.{KeepsOwned};
 ghost use Rattle.mem_access.specs.Bank.{bank_state};
 ghost use Rattle.machine_step.specs.Effect.{effect_of};
 ghost use Rattle.machine_step.specs.Needs.{needs_bank};
-ghost use Rattle.machine_step.specs.Machine.{core_of, AttemptsOn, IsInMode, IsSameBank, KeepsMode};
+ghost use Rattle.machine_step.specs.Machine.{core_of, AttemptsOn, IsInMode, IsSameBank};
 ghost use Rattle.machine_step.specs.Several.{MakesSteps, HaltsAt, halts_in};
 
 use crate::at_once::Attempt;
@@ -20,7 +16,8 @@ use crate::machine::Machine;
 use crate::page_run::Next;
 use mem_access::Bank;
 
-/// How many instructions were executed, and the word of the next one, where the run was told to halt before it.
+/// How many instructions were executed, and the word of the next one, where the run was told to halt before
+/// it.
 #[derive(Clone, Copy)]
 pub struct Made {
     pub count: u32,
@@ -29,11 +26,11 @@ pub struct Made {
 
 impl Machine {
     /// Executes instructions one after the other, `most` at most, and tells how many. It ends before one that
-    /// it is told to halt before, whose word it gives; before one that is not executed at once, that may raise
-    /// or ask, or for which memory is wanting; and, where `apart` says that the machine is kept off the bank,
-    /// before one that needs a bank. Where it made fewer than `most` and gives no word, the next one is none to
-    /// halt before. Owned pages stay owned; which come to them, the single step says. It is laid into the
-    /// function that makes turns by it.
+    /// it is told to halt before, whose word it gives; before one that is not executed at once, that may
+    /// raise or ask, or for which memory is wanting; and, where `apart` says that the machine is kept off the
+    /// bank, before one that needs a bank. Where it made fewer than `most` and gives no word, the next one is
+    /// none to halt before. Owned pages stay owned; which come to them, the single step says. It is laid into
+    /// the function that makes turns by it.
     #[inline(always)]
     pub fn step_several<H: Halts>(
         &mut self,
@@ -111,8 +108,8 @@ impl Machine {
     /// halt before.
     #[inline(always)]
     fn look<H: Halts>(&self, decoder: &Decoder, known: Next, halts: &H) -> Result<Next, u32>
-        requires next { Follows (H.halts halts.now) self.now.pages.memory decoder.now.places.items self.now.scalars
-            known }
+        requires next { Follows (H.halts halts.now) self.now.pages.memory decoder.now.places.items
+            self.now.scalars known }
         ensures next { IfOk result (λ next. Follows (H.halts halts.now) self.now.pages.memory
             decoder.now.places.items self.now.scalars next) }
         ensures unhalted { IfOk result (λ next. halts_in (H.halts halts.now) self.now.pages.memory

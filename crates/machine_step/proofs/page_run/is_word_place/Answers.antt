@@ -1,4 +1,4 @@
-use Rattle.std.proofs.Common.{◌≡◌, arith}
+use Rattle.std.proofs.Common.{arith}
 use borrow.Author.Tests.{eqb-true}
 use Rattle.machine_step.proofs.Places.{place_within, place_aligned}
 use Rattle.machine_step.proofs.page_run.is_word_place.Goals as goal

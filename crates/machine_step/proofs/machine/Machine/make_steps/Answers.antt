@@ -20,8 +20,10 @@ steps-preserved g c =
     record {
       executed = rw add-one (executed_more halts c.args.apart bank.vectors.vl (c.steps.done + c.run_known-made.result.0) from
           c.run_known-made.new.self c.run_known-made.new.bank c.step_next.new.self c.step_next.new.bank (r.same.vl ∙ h.same.vl)
-          (executed_after halts c.args.apart bank.vectors.vl c.steps.done c.run_known-made.result.0 from c.steps.self c.steps.bank
-          (core_of c.run_known-made.new.self (bank_state c.run_known-made.new.bank)) h.same.vl h.executed r.executed) e.effect (e.kept refl) c.in-Ok.ensures.unhalted);
+          (
+          executed_after halts c.args.apart bank.vectors.vl c.steps.done c.run_known-made.result.0 from c.steps.self c.steps.bank
+          (core_of c.run_known-made.new.self (bank_state c.run_known-made.new.bank)) h.same.vl h.executed r.executed)
+          e.effect (e.kept refl) c.in-Ok.ensures.unhalted);
       few = omega (arith, r.few, c.steps-test.true, c.if-done-most.false, h.few);
       owned = kept_trans c.args.self.now.pages c.steps.self.pages c.step_next.new.self.pages h.owned
           (kept_trans c.steps.self.pages c.run_known-made.new.self.pages c.step_next.new.self.pages r.owned e.owned);
@@ -38,7 +40,8 @@ returns-then-done-most g c =
     let bank = c.args.bank.now in
     let from = core_of c.args.self.now (bank_state bank) in
     record {
-      executed = (executed_after halts c.args.apart bank.vectors.vl c.steps.done c.run_known-made.result.0 from c.steps.self c.steps.bank
+      executed = (
+          executed_after halts c.args.apart bank.vectors.vl c.steps.done c.run_known-made.result.0 from c.steps.self c.steps.bank
           (core_of c.run_known-made.new.self (bank_state c.run_known-made.new.bank)) h.same.vl h.executed r.executed);
       few = omega (arith, r.few, c.steps-test.true, h.few);
       halted = λ less. absurd (omega (arith, less, c.if-done-most.true));
@@ -55,7 +58,8 @@ returns-in-Err g c =
     let bank = c.args.bank.now in
     let from = core_of c.args.self.now (bank_state bank) in
     record {
-      executed = (executed_after halts c.args.apart bank.vectors.vl c.steps.done c.run_known-made.result.0 from c.steps.self c.steps.bank
+      executed = (
+          executed_after halts c.args.apart bank.vectors.vl c.steps.done c.run_known-made.result.0 from c.steps.self c.steps.bank
           (core_of c.run_known-made.new.self (bank_state c.run_known-made.new.bank)) h.same.vl h.executed r.executed);
       few = omega (arith, r.few, c.steps-test.true, h.few);
       halted = c.in-Err.ensures.halted;
@@ -73,7 +77,8 @@ returns-in-Waits g c =
     let bank = c.args.bank.now in
     let from = core_of c.args.self.now (bank_state bank) in
     record {
-      executed = rw (e.effect.0, e.effect.1) (executed_after halts c.args.apart bank.vectors.vl c.steps.done c.run_known-made.result.0 from c.steps.self c.steps.bank
+      executed = rw (e.effect.0, e.effect.1) (
+          executed_after halts c.args.apart bank.vectors.vl c.steps.done c.run_known-made.result.0 from c.steps.self c.steps.bank
           (core_of c.run_known-made.new.self (bank_state c.run_known-made.new.bank)) h.same.vl h.executed r.executed);
       few = omega (arith, r.few, c.steps-test.true, h.few);
       halted = λ less. ap (λ (m : Machine). halts_in halts m.pages.memory m.scalars.pc) e.effect.0
@@ -94,7 +99,8 @@ returns-in-Memory g c =
     let bank = c.args.bank.now in
     let from = core_of c.args.self.now (bank_state bank) in
     record {
-      executed = rw e.effect.0 (executed_after halts c.args.apart bank.vectors.vl c.steps.done c.run_known-made.result.0 from c.steps.self c.steps.bank
+      executed = rw e.effect.0 (
+          executed_after halts c.args.apart bank.vectors.vl c.steps.done c.run_known-made.result.0 from c.steps.self c.steps.bank
           (core_of c.run_known-made.new.self (bank_state c.run_known-made.new.bank)) h.same.vl h.executed r.executed);
       few = omega (arith, r.few, c.steps-test.true, h.few);
       halted = λ less. ap (λ (s : ProcessorState). halts_in halts s.memory s.scalars.pc) e.effect.0

@@ -1,4 +1,4 @@
-use Rattle.std.proofs.Common.{◌≡◌, ◌+◌, Some, add-one, refl, ap, sym, subst, ◌∙◌, arith}
+use Rattle.std.proofs.Common.{◌+◌, Some, add-one, refl, ap, sym, subst, ◌∙◌, arith}
 use Rattle.paged_memory.proofs.Owned.{kept_trans}
 use Rattle.mem_access.specs.Bank.{bank_state}
 use Rattle.machine_step.specs.Machine.{core_of}
@@ -29,7 +29,8 @@ runs-preserved g c =
           (e.effect c.run_page-made.new.bank) (e.kept refl c.args.apart (bank_state c.run_page-made.new.bank)) n.unhalted);
       few = omega (arith, r.few, c.runs-test.true, c.if-done-most.false, h.few);
       owned = kept_trans c.args.self.now.pages c.runs.self.pages c.store_known.new.self.pages h.owned
-          (kept_trans c.runs.self.pages c.run_page-made.new.self.pages c.store_known.new.self.pages (kept_same c.runs.self.pages c.run_page-made.new.self.pages r.pages) e.owned);
+          (kept_trans c.runs.self.pages c.run_page-made.new.self.pages c.store_known.new.self.pages
+          (kept_same c.runs.self.pages c.run_page-made.new.self.pages r.pages) e.owned);
       same = same_trans bank c.runs.bank c.run_page-made.new.bank h.same r.same;
       mode = mode_stays c.run_page-made.new.bank c.run_page-made.new.self c.store_known.new.self r.mode e.mode;
     }
