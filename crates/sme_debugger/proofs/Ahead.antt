@@ -54,14 +54,15 @@ module _ (r : Recording) (count used : ℕ) (s : State) (p : IsPlace r count s u
 
   few : (n : ℕ) → counts_by r (s.turns + n) ≤ count + n
   few n =
-      let most = counts_few r.program r.config r.thread r.journal 0 s.turns n in
+      let most : counts_by r (s.turns + n) ≤ counts_by r s.turns + n = counts_few r.program r.config r.thread r.journal 0 s.turns n in
       let at = here in omega (arith, most, at)
 
   -- each of them counts an instruction, so that no turn before the last comes to its count
   first : (n m : ℕ) → m < s.turns + n → counts_by r m ≢ count + n
   first n m l = elim (compared m s.turns) [
     | inl less ↦
-        let grown = count_later r.program r.config r.thread r.journal 0 m s.turns (omega (arith, less)) in
+        let grown : counts_by r m ≤ counts_by r s.turns =
+        count_later r.program r.config r.thread r.journal 0 m s.turns (omega (arith, less)) in
         let at = here in
         let other = p.first m less in λ same. omega (arith, grown, at, other, same)
     | inr (inl is) ↦
@@ -86,10 +87,11 @@ module _ (r : Recording) (count used : ℕ) (s : State) (p : IsPlace r count s u
   -- where the last but one is
   counts_before : (n : ℕ) (t : State) (goes : GoesTo (suc n) t) → t.count ≡ count + suc n → goes.0.count ≡ count + n
   counts_before n t goes counts =
-      let one = counts_few r.program r.config r.thread r.journal 0 (s.turns + n) 1 in
+      let one : counts_by r (s.turns + n + 1) ≤ counts_by r (s.turns + n) + 1 =
+      counts_few r.program r.config r.thread r.journal 0 (s.turns + n) 1 in
       let before = counts_at n goes.0 goes.1 in
       let next : s.turns + n + 1 ≡ s.turns + suc n = omega arith in
-      let after = ap (counts_by r) next ∙ counts_at (suc n) t goes in
+      let after : counts_by r (s.turns + n + 1) ≡ t.count = ap (counts_by r) next ∙ counts_at (suc n) t goes in
       let most = few n in omega (arith, one, before, after, most, counts)
 
   away : (u t : State) → turn_of r.config r.thread used u ≡ Goes t → t.count ≡ suc u.count
