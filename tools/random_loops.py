@@ -1,6 +1,6 @@
 #!/usr/bin/env python3
-"""Makes programs of one random loop of scalar instructions with loads and stores, and compares the reports of their runs with those that an interpreter makes which shares
-nothing with the emulator.
+"""Makes programs of one random loop of scalar instructions, loads, stores and now and then vectors, and compares the reports of their runs with those that an interpreter makes
+which shares nothing with the emulator.
 
     tools/random_loops.py [PROGRAM] [--beside OTHER] [--loops N] [--seed S]
 
@@ -14,6 +14,7 @@ import difflib
 import os
 import pathlib
 import random
+import re
 import subprocess
 import sys
 import tempfile
@@ -36,6 +37,11 @@ ZERO = 31
 MOST_TURNS = 400
 EXIT = [0xD2800BA8, 0xD4000001]  # movz x8, #93; svc #0
 
+# the place of the words of vectors among those of the names
+VECTORS = "vectors"
+# ptrue p0.b to p7.b, and index z0.b, #n, #n to z7.b
+PREDICATES, NUMBERS = [0x2518E3E0 | k for k in range(8)], [0x04204000 | k << 16 | k << 5 | k for k in range(8)]
+
 # Names by where the registers stand in their words: written at bit 0, and read at the bits that follow.
 SUMS = {name: (5, 16) for name in ("add", "adds", "sub", "subs", "and", "ands", "orr", "eor", "bic", "bics", "orn", "eon", "adc", "adcs", "sbc", "sbcs", "csel",
                                    "csinc", "csinv", "csneg", "lslv", "lsrv", "asrv", "rorv", "udiv", "sdiv", "extr", "smulh", "umulh")}
@@ -52,10 +58,10 @@ def with_field(word, low, width, value):
 
 
 def known_words():
-    """The words of the tables by their names."""
-    known = {}
+    """The words of the tables by their names, and those of vectors and predicates together."""
+    known = {VECTORS: []}
     for word, text in words().items():
-        known.setdefault(text.split(" ")[0], []).append((word, text))
+        known[VECTORS].append((word, text)) if re.search(r"\b[zp][0-9]+\.", text) else known.setdefault(text.split(" ")[0], []).append((word, text))
     return known
 
 
@@ -116,6 +122,16 @@ def shared_access(chance):
     return kind | (source << 16 if kind & 0x3F200000 in (0x38200000, 0x08A00000) else 0) | 20 << 5 | target
 
 
+def vector(chance, known):
+    """An instruction of vectors or predicates; the base of an access is one of ours."""
+    word, text = chance.choice(known[VECTORS])
+    if re.search(r"\[(x|sp)", text):
+        word = with_field(word, 5, 5, chance.choice((*BASES, ZERO)))
+        if re.search(r", x[0-9]+(, lsl|\])", text):
+            word = with_field(word, 16, 5, chance.choice(INDICES))
+    return word
+
+
 def branch(chance, left):
     """A branch forwards, at most behind the loop's last instruction, of which so many are left."""
     distance, target = chance.randrange(1, left + 1), register(chance, (*WRITTEN, COUNTER))
@@ -135,8 +151,10 @@ def body_of(chance, known, at, count, function):
     while len(found) < count:
         place, left = at + len(found), count - len(found)
         kind = chance.random()
-        if kind < 0.45:
+        if kind < 0.38:
             found.append(computation(chance, known))
+        elif kind < 0.45:
+            found.append(vector(chance, known))
         elif kind < 0.8:
             found.append(access(chance))
         elif kind < 0.84:
@@ -171,7 +189,7 @@ def program(chance, known, most):
         code += loaded(index, chance.choice((0, 1, 8, 16, (1 << 64) - 8, 0xFFFFFFF8, 0x100000008)))
     for target, place in zip(TARGETS, (function, 2049 if chance.random() < 0.9 else 2048.5)):
         code += loaded(target, int(CODE + 4 * place))
-    code += [*loaded(COUNTER, turns), 0xD10803FF]  # sub sp, sp, #512
+    code += [*PREDICATES, *NUMBERS, *loaded(COUNTER, turns), 0xD10803FF]  # sub sp, sp, #512
     body = body_of(chance, known, len(code), count, function)
     # subs x25, x25, #1; b.ne to the loop's first instruction
     code += [*body, 0xF1000400 | COUNTER << 5 | COUNTER, 0x54000001 | (-(count + 1) & 0x7FFFF) << 5, *EXIT]
@@ -182,7 +200,7 @@ def program(chance, known, most):
     code[function] = chance.choice((0x91000400 | 3 << 5 | 3, 0xD65F03C0, 0x8B0000A5))
     flags = 7 if chance.random() < 0.3 else 5
     file = build([Segment(CODE, text_of(code), flags=flags), Segment(DATA, chance.randbytes(2 * PAGE), flags=6)])[0]
-    return file, {"vl": 128, "svl": 256, "budget": chance.choice((40 * most, 40 * most, 700, 1001)), "slice": chance.choice((1000, 1000, 7, 1))}
+    return file, {"vl": chance.choice((128, 128, 256, 512, 1024, 2048)), "svl": 256, "budget": chance.choice((40 * most, 40 * most, 700, 1001)), "slice": chance.choice((1000, 1000, 7, 1))}
 
 
 def run(smemu, path, options):
