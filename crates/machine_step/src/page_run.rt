@@ -201,6 +201,10 @@ impl Machine {
                 let address = Address::Offset { imm: x.imm };
                 self.access_known(word, &store_by(AccessSize::Byte, address, x.rn, x.rt))
             }
+            Flat::StoreDoublewordAt(x, Address::PostIndex { offset }) => {
+                let address = Address::PostIndex { offset };
+                self.access_known(word, &store_by(AccessSize::Doubleword, address, x.rn, x.rt))
+            }
             Flat::StoreDoublewordAt(x, address) => {
                 self.access_known(word, &store_by(AccessSize::Doubleword, address, x.rn, x.rt))
             }
