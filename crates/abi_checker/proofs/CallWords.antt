@@ -1,15 +1,16 @@
 -- The words by which calls are told are those of BL and BLR, by the tables.
 use Rattle.std.proofs.Common.{inl, inr, ◌≡◌, ℕ, ◌*◌, ◌/◌, ◌%◌, ◌^◌, ◌<◌, Bool, true, false, cond, ◌==◌, ◌&&◌, ◌||◌, refl, ap, sym, ◌∙◌}
-use Rattle.std.proofs.Common.{eqb-true, eq-eqb, ℤ, arith, Some}
-use Rattle.std.specs.Prelude.{bit_and}
+use Rattle.std.proofs.Common.{◌⊎◌, List, [], ◌∷◌, Option, None, subst, eqb-true, eq-eqb, ℤ, arith, Some}
+use Rattle.std.specs.Prelude.{bit_and, unwrap_or}
 use Rattle.std.specs.List.{list_all}
+use Rattle.std.specs.Option.{option_or}
 use Rattle.std.proofs.lemmas.Bool.{and_parts, cases_Bool}
 use Rattle.std.proofs.lemmas.Nat.{and_assoc, and_mask}
 use Rattle.sm_types.specs.declared.insn.Insn.{Insn}
 use Rattle.sm_types.specs.declared.insn.BranchRegisterOp.TheVariants.{Br, Blr, Ret}
 use Rattle.insn_forms.specs.declared.field.Field.{Field}
 use Rattle.insn_forms.specs.declared.line.Line.{Line}
-use Rattle.insn_forms.specs.Tables.{insn_in, meaning_by}
+use Rattle.insn_forms.specs.Tables.{Table, insn_in, meaning_in, meaning_by, stands_for, fits_in}
 use Rattle.insn_forms.proofs.Bits.{field_masked}
 use Rattle.insn_forms.proofs.Tables.{differ, not_alike}
 use Rattle.a64_table.specs.declared.operation.Operation.{Operation}
@@ -25,7 +26,34 @@ use Rattle.sve_table.specs.Named.{named as vector_named}
 use Rattle.sve_table.specs.Table.{vector, vector_meaning_of}
 use Rattle.a64_encode.specs.Either.{instruction_of}
 use Rattle.abi_checker.specs.Marks.{is_call_word, is_call_insn}
-use Rattle.abi_checker.proofs.Classes.{all_mean, by_either}
+
+-- ---- the lines of a table
+
+-- what is so of the instruction of each line that the word matches is so of the word's
+module _ {O I : Type 0} (t : Table O I) (word : ℕ) (P : I → Type 0) (safe : Line O → Bool)
+    (sound : (line : Line O) → safe line ≡ true → bit_and word line.mask ≡ line.value → P (insn_in t line.operation word)) where
+  one_some : (x y : I) → Some x ≡ Some y → P x → P y
+  one_some x y e h = subst P (ap (λ o. unwrap_or o x) e) h
+
+  all_mean : (lines : List (Line O)) → list_all safe lines ≡ true → (it : I) → meaning_in t lines word ≡ Some it → P it
+  unfolding meaning_in stands_for
+  all_mean [] e it h = cc
+  all_mean (line ∷ lines) e it h =
+      let parts = and_parts (safe line) (list_all safe lines) e in
+      let test : Bool = (bit_and word line.mask == line.value) && fits_in t line.operation word in
+      let choose : Bool → Option I = λ b. cond b (Some (insn_in t line.operation word)) (meaning_in t lines word) in
+      elim (cases_Bool test) [
+        | inl held ↦
+            one_some (insn_in t line.operation word) it (sym (ap choose held) ∙ h)
+            (sound line parts.0
+            (eqb-true (bit_and word line.mask) line.value
+            (and_parts (bit_and word line.mask == line.value) (fits_in t line.operation word) held).0))
+        | inr other ↦ all_mean lines parts.1 it (sym (ap choose other) ∙ h)
+      ]
+
+by_either : (first second : Option Insn) (it : Insn) → option_or first second ≡ Some it → (first ≡ Some it) ⊎ (second ≡ Some it)
+by_either None second it e = inr e
+by_either (Some x) second it e = inl e
 
 -- ---- the operations
 

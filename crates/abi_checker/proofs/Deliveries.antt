@@ -8,7 +8,7 @@ use Rattle.kernel_contexts.specs.Call.{Goes, Ends}
 use Rattle.kernel_contexts.specs.Turn.{turn_of, instruction_of, is_poll_due, poll_of, is_delivery_due, delivery_of, lowest_signal}
 use Rattle.kernel_contexts.specs.HandlerRun.{IsPlain}
 use Rattle.abi_checker.specs.Whole.{ArePlainBefore}
-use Rattle.abi_checker.proofs.Executed.{goes_where, poll_asks, delivered_counts}
+use Rattle.abi_checker.proofs.Counted.{goes_where, poll_asks, delivered_counts}
 use Rattle.abi_checker.proofs.Quiet.{AreCounted}
 
 -- where a turn counts an instruction, none is

@@ -49,7 +49,6 @@ none_settles r old near here = record {
       (λ k d l. kept (is_back r (get_or old.calls.items k d)) (away r old.near (get_or old.calls.items k d) (near k d l) here));
   all = refl;
   near = near;
-  known = λ m h. h;
 }
 
 -- ---- the calls up to one place more
