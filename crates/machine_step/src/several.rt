@@ -28,7 +28,7 @@ impl Machine {
     /// Executes instructions one after the other, `most` at most, and tells how many: none that it is told to
     /// halt before, and, if `apart` says that the machine is kept off the bank, none that needs a bank. If it
     /// gives a word, that is the next instruction's, and it is told to halt before it; if it gives none and
-    /// executed fewer than `most`, the next one is none to halt before. No clause says why there are not more:
+    /// executed fewer than `most`, the next one is none to halt before. No clause says why it makes no more:
     /// it stops too before an instruction that may raise or ask, and for want of memory. Owned pages stay
     /// owned; no clause says which others are owned then. Inlined.
     #[inline(always)]
