@@ -137,7 +137,8 @@ impl Machine {
         }
     }
 
-    /// The same with the stores: after each the page is held anew, since it may be in that page.
+    /// The same with the loads and stores of one and two registers that are made at once: after each the page
+    /// is looked up again, since a store may write to it.
     #[inline(always)]
     pub(crate) fn run_known<H: Halts>(
         &mut self,
@@ -176,7 +177,8 @@ impl Machine {
         (done, Next::Unknown)
     }
 
-    /// Makes the store of the instruction at PC at once, where it is one; it is the kept one.
+    /// Makes the access of the instruction at PC at once, if it is a load or a store of one or two registers;
+    /// it is the kept one.
     #[inline(always)]
     fn store_known(&mut self, known: &Decoded) -> Attempt
         requires aligned { self.old.scalars.pc % 4 ≡ 0 }

@@ -16,8 +16,8 @@ use crate::machine::Machine;
 use crate::page_run::Next;
 use mem_access::Bank;
 
-/// How many instructions were executed, and the word of the next one, where the run was told to halt before
-/// it.
+/// How many instructions were executed, and the word of the next one, if the run was told to halt before it.
+/// A run that executed as many as it might need not give that word.
 #[derive(Clone, Copy)]
 pub struct Made {
     pub count: u32,
@@ -25,12 +25,12 @@ pub struct Made {
 }
 
 impl Machine {
-    /// Executes instructions one after the other, `most` at most, and tells how many. It ends before one that
-    /// it is told to halt before, whose word it gives; before one that is not executed at once, that may
-    /// raise or ask, or for which memory is wanting; and, where `apart` says that the machine is kept off the
-    /// bank, before one that needs a bank. Where it made fewer than `most` and gives no word, the next one is
-    /// none to halt before. Owned pages stay owned; which come to them, the single step says. It is laid into
-    /// the function that makes turns by it.
+    /// Executes instructions one after the other, `most` at most, and tells how many: none that it is told to
+    /// halt before, and, if `apart` says that the machine is kept off the bank, none that needs a bank. If it
+    /// gives a word, that is the next instruction's, and it is told to halt before it; if it gives none and
+    /// executed fewer than `most`, the next one is none to halt before. No clause says why it makes no more:
+    /// it stops too before an instruction that may raise or ask, and for want of memory. Owned pages stay
+    /// owned; no clause says which others are owned then. Inlined.
     #[inline(always)]
     pub fn step_several<H: Halts>(
         &mut self,
@@ -50,8 +50,7 @@ impl Machine {
         }
     }
 
-    /// The same, laid in twice: the loop of a machine that has the bank asks no instruction whether it needs
-    /// one.
+    /// The same, inlined twice: the loop skips the test for a bank if the machine has the bank.
     #[inline(always)]
     fn make_steps<H: Halts>(
         &mut self,
