@@ -128,8 +128,8 @@ impl<P: Port> Core<P> {
     /// stopped is done with. `Idle` comes exactly where there is no resident, and leaves the port as it is.
     /// `TraceEnds` and `TraceDiffers` come only where, before that, the next turn asks an operation that the
     /// port refuses so, as port and ticket stand at the end; `Memory` comes only where memory may be wanting
-    /// for the next turn. At the end, exactly where the resident began a turn that reads or writes vectors, it
-    /// owns the bank; else the owner stays. One that stopped owns the bank no more.
+    /// for the next turn. At the end, where the resident began a turn that reads or writes vectors, it owns
+    /// the bank; else the owner stays. One that stopped owns the bank no more.
     pub fn run(&mut self, port: &mut P, k: u32) -> CoreRun
         requires belong { BelongTo (λ t. (P.tells t).name) (P.name port.old) (core_state self.old) }
         ensures run { RunsCore (λ t. P.refuses port.new t)
