@@ -208,11 +208,11 @@ module _ (program : Program) (config : Config) (thread : ℕ) (journal : List Ev
       (not_over program config thread journal count old ticket watch found h) counts e.count
       (omega (arith, made, few))
 
-  abbrev pub run : ℕ → State
-  run = states_of program config thread journal
+  abbrev states : ℕ → State
+  states = states_of program config thread journal
 
   -- with what is told then
-  pub round_over : (later : Watch) (now : Option Abi) → IsUnderWay run (h.way.turns + end.count) later now
+  pub round_over : (later : Watch) (now : Option Abi) → IsUnderWay states (h.way.turns + end.count) later now
       → IsFollowed program config thread journal count new ticket later now
   round_over later now way =
       followed_over program config thread journal count old ticket same is watch found h new end.count goes e.count e.journal within
@@ -222,15 +222,15 @@ module _ (program : Program) (config : Config) (thread : ℕ) (journal : List Ev
   pub round_stays : end.count ≡ 0 → IsFollowed program config thread journal count new ticket watch found
   round_stays none =
       let here : h.way.turns + end.count ≡ h.way.turns = omega (arith, none) in
-      round_over watch found (subst (λ i. IsUnderWay run i watch found) (sym here) h.told)
+      round_over watch found (subst (λ i. IsUnderWay states i watch found) (sym here) h.told)
 
   module _ (call : Option ℕ) (later : Watch) (now : Option Abi)
       (tells : (run : ℕ → State) (m : ℕ) → IsUnderWay run m watch found → run (suc m) ≡ state_of new
       → IsPast (run m) (run (suc m)) call → (run m).count ≤ (run (suc m)).count → IsWholeAt run (suc m)
       → IsUnderWay run (suc m) later now)
       (whole : IsWholeWith (vector_bytes (config_of new).svl) (state_of new).core) where
-    pub round_told : (k : ℕ) → end.count ≡ suc k → IsUnderWay run (h.way.turns + k) watch found
-        → IsPast (run (h.way.turns + k)) (run (h.way.turns + suc k)) call
+    pub round_told : (k : ℕ) → end.count ≡ suc k → IsUnderWay states (h.way.turns + k) watch found
+        → IsPast (states (h.way.turns + k)) (states (h.way.turns + suc k)) call
         → IsFollowed program config thread journal count new ticket later now
     round_told k some way past =
         round_over later now
@@ -244,7 +244,7 @@ module _ (program : Program) (config : Config) (thread : ℕ) (journal : List Ev
       (subst (λ (k : Config). GoesApart halts false k (thread_of old) (length (journal_of old)) end.count (state_of old) (state_of new))
       same e.turns)
 
-  pub counted_turns : AreCounted config thread (length (journal_of old)) run h.way.turns end.count
+  pub counted_turns : AreCounted config thread (length (journal_of old)) states h.way.turns end.count
   counted_turns =
       are_counted program config thread journal h.way.turns (length (journal_of old)) ticket.ahead (state_of old) h.way.at end.count
       (state_of new)

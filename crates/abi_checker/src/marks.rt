@@ -86,7 +86,7 @@ fn tail_words(call: u32) -> [u32; 6]
 pub const TAIL_START: u32 = 0xD503_457F;
 
 /// Whether the first word of a tail is at an address; where it is not, there is no tail.
-#[inline]
+#[inline(always)]
 fn has_first_word(pages: &Pages, tail: u64) -> bool
     ensures { (p : Places) → p.tail ≡ tail → HasMark pages.now.memory p → IsTrue result }
 {
@@ -97,7 +97,7 @@ fn has_first_word(pages: &Pages, tail: u64) -> bool
 }
 
 /// Whether the first word of a tail stands behind a call.
-#[inline]
+#[inline(always)]
 pub fn may_be_marked(context: &Context, past: Option<u64>) -> bool
     ensures { result ≡ false → IsNoMarkPast (state_of context.now) past }
 {

@@ -53,7 +53,7 @@ impl Watch {
     }
 
     /// Whether a call may come back to an address: none does where this is false.
-    #[inline]
+    #[inline(always)]
     fn is_near(&self, pc: u64) -> bool
         ensures { result ≡ is_near self.now.near pc }
     {
@@ -196,7 +196,7 @@ impl Watch {
     }
 
     /// The same; at most turns nothing is to be told, as they were no call and no call comes back there.
-    #[inline]
+    #[inline(always)]
     pub fn tell(
         &mut self,
         context: &Context,
@@ -217,7 +217,7 @@ impl Watch {
     }
 
     /// Whether nothing is to be told: the turn was no marked call, and no call comes back there.
-    #[inline]
+    #[inline(always)]
     fn passes(&self, context: &Context, past: Option<u64>) -> bool
         ensures call { IsTrue result → IsNoMarkPast (state_of context.now) past }
         ensures away { IsTrue result

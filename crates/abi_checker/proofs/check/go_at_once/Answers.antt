@@ -97,8 +97,8 @@ returns-then-is_some-2-clause-goes c =
     (far_on c.args.context.now c.rounds.context c.go_to_halt.new.context c.rounds.invariant.far c.go_to_halt.ensures.goes)
     c.make_halted.ensures.goes
 
-pub returns-then-count-eq-before-clause-followed : goal.returns-then-count-eq-before-clause-followed
-returns-then-count-eq-before-clause-followed c = λ journal ticket h.
+pub returns-then-count-before-clause-followed : goal.returns-then-count-before-clause-followed
+returns-then-count-before-clause-followed c = λ journal ticket h.
     let far = c.rounds.invariant.far in
     let on = far_on c.args.context.now c.rounds.context c.go_to_halt.new.context far c.go_to_halt.ensures.goes in
     quiet_followed c.args.context.now c.go_to_halt.new.context on journal c.args.count ticket c.go_to_halt.new.watch
@@ -106,10 +106,10 @@ returns-then-count-eq-before-clause-followed c = λ journal ticket h.
     (c.rounds.invariant.followed journal ticket h) c.go_to_halt.new.context c.go_to_halt.new.watch c.in_ok-pause.pause.found
     (c.in_ok-pause.ensures.followed journal ticket) (sym c.is_some.ensures ∙ c.if-is_some.false))
     c.make_halted.new.context c.make_halted.new.watch c.in_ok-found.found (c.in_ok-found.ensures.followed journal ticket)
-    (sym c.is_some-2.ensures ∙ c.if-is_some-2.false)
+    (sym c.is_some-in-rounds.ensures ∙ c.if-is_some-2.false)
 
-pub returns-then-count-eq-before-clause-goes : goal.returns-then-count-eq-before-clause-goes
-returns-then-count-eq-before-clause-goes c =
+pub returns-then-count-before-clause-goes : goal.returns-then-count-before-clause-goes
+returns-then-count-before-clause-goes c =
     far_on c.args.context.now c.go_to_halt.new.context c.make_halted.new.context
     (far_on c.args.context.now c.rounds.context c.go_to_halt.new.context c.rounds.invariant.far c.go_to_halt.ensures.goes)
     c.make_halted.ensures.goes
@@ -126,7 +126,7 @@ rounds-preserved c =
           (c.rounds.invariant.followed journal ticket h) c.go_to_halt.new.context c.go_to_halt.new.watch c.in_ok-pause.pause.found
           (c.in_ok-pause.ensures.followed journal ticket) (sym c.is_some.ensures ∙ c.if-is_some.false))
           c.make_halted.new.context c.make_halted.new.watch c.in_ok-found.found (c.in_ok-found.ensures.followed journal ticket)
-          (sym c.is_some-2.ensures ∙ c.if-is_some-2.false);
+          (sym c.is_some-in-rounds.ensures ∙ c.if-is_some-2.false);
     }
 
 pub rounds-smaller : goal.rounds-smaller
@@ -141,8 +141,8 @@ rounds-smaller c =
     c.in_ok-pause.pause.found (c.in_ok-pause.ensures.followed first.journal first.ticket)
     (sym c.is_some.ensures ∙ c.if-is_some.false))
     c.make_halted.new.context c.make_halted.new.watch c.in_ok-found.found
-    (c.in_ok-found.ensures.followed first.journal first.ticket) (sym c.is_some-2.ensures ∙ c.if-is_some-2.false) in
+    (c.in_ok-found.ensures.followed first.journal first.ticket) (sym c.is_some-in-rounds.ensures ∙ c.if-is_some-2.false) in
     fewer c.args.count (state_of c.rounds.context).count (state_of c.go_to_halt.new.context).count
     (state_of c.make_halted.new.context).count c.count-before.result c.count.result c.go_to_halt.ensures.goes.count
-    c.count-before.ensures c.count.ensures c.if-count-eq-before.false c.make_halted.ensures.goes.count
+    c.count-before.ensures c.count.ensures c.if-count-before.false c.make_halted.ensures.goes.count
     (not_over _ _ _ _ _ c.make_halted.new.context first.ticket c.make_halted.new.watch _ way)

@@ -14,17 +14,17 @@ tell-requires-clause-somewhere c =
     somewhere_here _ _ _ _ _ c.args.context.now first.ticket refl refl c.args.watch.now _ first.followed c.count.result c.count.ensures
     c.count.type_inv
 
-pub returns-then-count-eq0-clause-followed : goal.returns-then-count-eq0-clause-followed
-returns-then-count-eq0-clause-followed c = λ journal ticket h.
+pub returns-then-made-eq0-clause-followed : goal.returns-then-made-eq0-clause-followed
+returns-then-made-eq0-clause-followed c = λ journal ticket h.
     round_stays _ _ _ _ _ c.args.context.now ticket refl refl c.args.watch.now _ h _ c.advance_several-made.new.self
-    c.advance_several-made.result _ c.count.result c.advance_several-made.ensures c.count.ensures (omega arith) c.if-count-eq0.true
+    c.advance_several-made.result _ c.count.result c.advance_several-made.ensures c.count.ensures (omega arith) c.if-made-eq0.true
 
-pub returns-then-count-eq0-clause-goes : goal.returns-then-count-eq0-clause-goes
-returns-then-count-eq0-clause-goes c =
+pub returns-then-made-eq0-clause-goes : goal.returns-then-made-eq0-clause-goes
+returns-then-made-eq0-clause-goes c =
     far_over _ c.args.context.now c.advance_several-made.new.self _ c.advance_several-made.result c.advance_several-made.ensures
 
-pub returns-then-count-eq0-clause-there : goal.returns-then-count-eq0-clause-there
-returns-then-count-eq0-clause-there c =
+pub returns-then-made-eq0-clause-there : goal.returns-then-made-eq0-clause-there
+returns-then-made-eq0-clause-there c =
     halted_there _ c.args.context.now c.advance_several-made.new.self _ c.advance_several-made.result c.advance_several-made.ensures
 
 pub returns-in_err-found-clause-goes : goal.returns-in_err-found-clause-goes
@@ -35,7 +35,7 @@ pub returns-clause-followed : goal.returns-clause-followed
 returns-clause-followed c = λ journal ticket h.
     quiet_told _ _ _ _ _ c.args.context.now ticket refl refl c.args.watch.now h c.halting.result.near c.halting.ensures
     c.advance_several-made.new.self c.advance_several-made.result c.count.result c.advance_several-made.ensures c.count.ensures
-    c.tell.new.self c.in_ok-found.found c.in_ok-found.ensures c.context_is_whole.ensures c.if-count-eq0.false
+    c.tell.new.self c.in_ok-found.found c.in_ok-found.ensures c.context_is_whole.ensures c.if-made-eq0.false
 
 pub returns-clause-goes : goal.returns-clause-goes
 returns-clause-goes c =

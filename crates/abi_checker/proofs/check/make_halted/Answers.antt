@@ -16,14 +16,14 @@ tell-requires-clause-somewhere c =
     somewhere_here _ _ _ _ _ c.args.context.now first.ticket refl refl c.args.watch.now _ first.followed c.count.result c.count.ensures
     c.count.type_inv
 
-pub returns-then-count-eq0-clause-followed : goal.returns-then-count-eq0-clause-followed
-returns-then-count-eq0-clause-followed c = λ journal ticket h.
+pub returns-then-made-eq0-clause-followed : goal.returns-then-made-eq0-clause-followed
+returns-then-made-eq0-clause-followed c = λ journal ticket h.
     round_stays _ _ _ _ _ c.args.context.now ticket refl refl c.args.watch.now _ h _ c.advance_several-made.new.self
     c.advance_several-made.result _ c.count.result c.advance_several-made.ensures c.count.ensures (omega (arith, c.min.ensures))
-    c.if-count-eq0.true
+    c.if-made-eq0.true
 
-pub returns-then-count-eq0-clause-goes : goal.returns-then-count-eq0-clause-goes
-returns-then-count-eq0-clause-goes c =
+pub returns-then-made-eq0-clause-goes : goal.returns-then-made-eq0-clause-goes
+returns-then-made-eq0-clause-goes c =
     far_over _ c.args.context.now c.advance_several-made.new.self _ c.advance_several-made.result c.advance_several-made.ensures
 
 pub returns-clause-followed : goal.returns-clause-followed
@@ -35,7 +35,7 @@ returns-clause-followed c = λ journal ticket h.
     c.call_at-call.result c.call_at-call.ensures.some c.call_at-call.ensures.none c.tell.new.self found
     (λ run m w e past grows whole.
     subst (λ r. IfOk r (λ told. IsUnderWay run (suc m) c.tell.new.self told)) is (c.tell.ensures run m w e past grows whole))
-    c.context_is_whole.ensures c.if-count-eq0.false)
+    c.context_is_whole.ensures c.if-made-eq0.false)
 
 pub returns-clause-goes : goal.returns-clause-goes
 returns-clause-goes c =
