@@ -199,6 +199,10 @@ impl Machine {
                 let address = Address::Offset { imm: x.imm };
                 self.access_known(word, &store_by(AccessSize::Word, address, x.rn, x.rt))
             }
+            Flat::StoreHalfword(x) => {
+                let address = Address::Offset { imm: x.imm };
+                self.access_known(word, &store_by(AccessSize::Halfword, address, x.rn, x.rt))
+            }
             Flat::StoreByte(x) => {
                 let address = Address::Offset { imm: x.imm };
                 self.access_known(word, &store_by(AccessSize::Byte, address, x.rn, x.rt))
@@ -209,6 +213,15 @@ impl Machine {
             }
             Flat::StoreDoublewordAt(x, address) => {
                 self.access_known(word, &store_by(AccessSize::Doubleword, address, x.rn, x.rt))
+            }
+            Flat::StoreWordAt(x, address) => {
+                self.access_known(word, &store_by(AccessSize::Word, address, x.rn, x.rt))
+            }
+            Flat::StoreHalfwordAt(x, address) => {
+                self.access_known(word, &store_by(AccessSize::Halfword, address, x.rn, x.rt))
+            }
+            Flat::StoreByteAt(x, address) => {
+                self.access_known(word, &store_by(AccessSize::Byte, address, x.rn, x.rt))
             }
             _ => match known.insn() {
                 Insn::LoadStore(_) => self.access_by_call(word, known.insn()),
