@@ -1,6 +1,7 @@
 -- From instructions of a page of code that read and write scalar registers alone to instructions that are executed.
 use Rattle.std.proofs.Common.{◌≡◌, ℕ, zero, suc, ◌+◌, Bool, true, false, Option, Some, inl, inr, refl, ap, sym, subst, ◌∙◌, arith}
 use Rattle.std.specs.Prelude.{◌&&◌, ◌%◌, ◌⊎◌, not, List, IsTrue}
+use Rattle.plain_lemmas.proofs.Tests.{and-false}
 use Rattle.sm_types.specs.declared.insn.Insn.{Insn}
 use Rattle.sm_types.specs.declared.insn.Insn.TheVariants as insn
 use Rattle.sm_types.specs.declared.scalars.Scalars.{Scalars}
@@ -51,10 +52,6 @@ scalar_apart (insn.TwoSource x) streaming h = refl
 scalar_apart (insn.Multiply x) streaming h = refl
 scalar_apart other streaming h = cc
 
-pub and_false : (b : Bool) → (b && false) ≡ false
-and_false true = refl
-and_false false = refl
-
 load_apart : (it : Insn) (streaming : Bool) → IsTrue (is_plain_load it) → uses_bank it streaming ≡ false
 load_apart (insn.LoadStore x) streaming h = refl
 load_apart other streaming h = cc
@@ -76,7 +73,7 @@ scalars_acted apart vl word s old new aligned fetched made =
             ∙ scalar_effect word vl scalar.it before scalar.scalar
             ∙ ap (λ (k : Scalars). Becomes (record s { scalars = k })) (sym scalar.is),
         ap (λ (k : Bool). apart && k) (needs_of_word before word (Some scalar.it) aligned fetched scalar.means
-            ∙ unneeded scalar.it before (scalar_apart scalar.it before.streaming scalar.scalar)) ∙ and_false apart,
+            ∙ unneeded scalar.it before (scalar_apart scalar.it before.streaming scalar.scalar)) ∙ and-false apart,
       )
       | inr load ↦ (
         effect_of_word vl before word (Some load.it) aligned fetched load.means
@@ -86,7 +83,7 @@ scalars_acted apart vl word s old new aligned fetched made =
             load.made.memory
             ∙ ap (λ (k : Scalars). Becomes (record s { scalars = k })) (sym load.made.is),
         ap (λ (k : Bool). apart && k) (needs_of_word before word (Some load.it) aligned fetched load.means
-            ∙ unneeded load.it before (load_apart load.it before.streaming load.load)) ∙ and_false apart,
+            ∙ unneeded load.it before (load_apart load.it before.streaming load.load)) ∙ and-false apart,
       )
     ]
 

@@ -3,6 +3,7 @@ use Rattle.std.proofs.Common.{◌≡◌, ℕ, ◌*◌, ◌/◌, true, false, Lis
 use Rattle.std.specs.Prelude.{IfSome, length, option_map}
 use Rattle.std.specs.List.{find}
 use Rattle.std.specs.Option.{option_or}
+use Rattle.plain_lemmas.proofs.Options.{neither_some}
 use Rattle.sm_types.specs.declared.scalars.Scalars.{Scalars}
 use Rattle.sm_types.specs.declared.stop.Exception.{Exception}
 use Rattle.sm_types.specs.declared.stop.Exception.TheVariants.{Shared, Data}
@@ -96,11 +97,6 @@ whole_made kind offset pg rn zt s v new pages start bytes from active bits there
       ap (λ (x : SveState). contents_of x.registers pages) (is ∙ ap (with_vector v zt) same),
     )
 
--- a store of which the checks that look at no page pass: its fault is that of the write
-placed_none : (a b : Option Exception) → option_or a b ≡ None → (a ≡ None) × (b ≡ None)
-placed_none None b e = (refl, e)
-placed_none (Some x) b e = cc
-
 pub placed_some : (a b c : Option Exception) (x : Exception) → option_or a b ≡ Some x → option_or a (option_or b c) ≡ Some x
 placed_some None None c x e = cc
 placed_some None (Some y) c x e = e
@@ -110,7 +106,7 @@ pub store_denied : (rn a n : ℕ) (s : Scalars) (m : AddressSpace)
     → option_or (sp_fault (at_base rn true (run_of a n)) s) (shared_fault (at_base rn true (run_of a n))) ≡ None
     → access_fault None (at_base rn true (run_of a n)) s m ≡ denied_write m a n
 store_denied rn a n s m none =
-    let both = placed_none (sp_fault (at_base rn true (run_of a n)) s) (shared_fault (at_base rn true (run_of a n))) none in
+    let both = neither_some (sp_fault (at_base rn true (run_of a n)) s) (shared_fault (at_base rn true (run_of a n))) none in
     sym (store_is rn (run_of a n) s m)
     ∙ ap₂ (λ p q. option_or p (option_or q (write_fault (at_base rn true (run_of a n)) m))) both.0 both.1
     ∙ ap (option_map (λ x. Data x Write)) (denied_run 2 m a n)
