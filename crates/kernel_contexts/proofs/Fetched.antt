@@ -1,8 +1,8 @@
 -- A turn that counts an instruction executes a word that stands at PC.
 use Rattle.std.proofs.Common.{◌≡◌, ℕ, suc, ◌==◌, Bool, true, false, cond, Option, Some, None, refl, ap, sym, ◌∙◌, arith}
 use Rattle.std.specs.Prelude.{nat_le}
-use Rattle.std.specs.Option.{option_or}
 use Rattle.std.specs.FinMap.{get}
+use Rattle.plain_lemmas.proofs.Options.{neither_some}
 use Rattle.sm_types.specs.declared.config.Config.{Config}
 use Rattle.sm_types.specs.declared.shared_op.SharedOp.{SharedOp}
 use Rattle.sm_types.specs.declared.stop.Exception.{Exception}
@@ -55,10 +55,6 @@ by_instruction config thread events s t e one =
     (λ h.
     let same = delivered_counts config (lowest_signal s) s t (get s.handlers (lowest_signal s)) h in omega (arith, one, same))
 
-neither : (a b : Option Exception) → option_or a b ≡ None → (a ≡ None) × (b ≡ None)
-neither None b h = (refl, h)
-neither (Some x) b h = cc
-
 there : (o : Option ℕ) → fetch_fault o ≡ None → (word : ℕ) × (o ≡ Some word)
 there None h = cc
 there (Some word) h = (word, refl)
@@ -72,9 +68,9 @@ module _ (config : Config) (thread events : ℕ) (s t : State) where
   unfolding fault_of
   unfaulted (Some exception) is goes = cc
   unfaulted None is goes =
-      let early = neither (early_fault s.core) _ is in
-      let aligned = neither (alignment_fault s.core) _ early.0 in
-      (neither (fetch_fault (word_of s.core)) _ aligned.1).0
+      let early = neither_some (early_fault s.core) _ is in
+      let aligned = neither_some (alignment_fault s.core) _ early.0 in
+      (neither_some (fetch_fault (word_of s.core)) _ aligned.1).0
 
   pub fetched : turn_of config thread events s ≡ Goes t → t.count ≡ suc s.count
       → (word : ℕ) × (word_at s.core.memory s.core.scalars.pc ≡ Some word)

@@ -74,7 +74,8 @@ module _ (config : Config) (thread events watch : ℕ) (s : State) (h : IsWatche
       ∙ kept_no apart (needs_bank before) (is_call_at before) _ kept (sym (call_told (vector_bytes config.vl) before) ∙ ap is_calls e)
 
   pub executed_goes : (halts : ℕ → ℕ → Bool) (apart : Bool) (n : ℕ) (core : ProcessorState) → s.count + n ≤ watch
-      → AreExecuted halts apart (vector_bytes config.vl) n s.core core → GoesApart halts apart config thread events n s (counted_by n s core)
+      → AreExecuted halts apart (vector_bytes config.vl) n s.core core
+      → GoesApart halts apart config thread events n s (counted_by n s core)
   executed_goes halts apart zero core l e =
       let none : s.count + 0 ≡ s.count = omega arith in
       let still : s.turns + 0 ≡ s.turns = omega arith in

@@ -16,8 +16,9 @@ halts_before halts s = halts_in halts s.core.memory s.core.scalars.pc
 abbrev pub never : ℕ → ℕ → Bool
 never pc word = false
 
--- so many turns of the thread of that number, with so many events of its journal, take one state to the other;
--- of a thread that is kept off its vectors none reads or writes them; and it was told to halt before none
+-- so many turns of the thread of that number, with so many events of its journal, take one state to the
+-- other; of a thread that is kept off its vectors none reads or writes them; and it was told to halt before
+-- none
 abbrev pub GoesApart : (ℕ → ℕ → Bool) → Bool → Config → ℕ → ℕ → ℕ → State → State → Type 0
 GoesApart halts apart config thread events zero old new = new ≡ old
 GoesApart halts apart config thread events (suc n) old new =

@@ -136,9 +136,9 @@ impl Context {
 
     /// Makes turns of a thread that has not stopped, on the context's own save area, `most` at most, and
     /// tells how many. Each is an instruction that is counted and asks nothing, and none that it is told to
-    /// halt before; where the next one is, its word is given. There may be fewer besides, or none: what the
-    /// next turn is then, `advance` finds, but it is none to halt before. Owned pages stay owned. It is laid
-    /// into its callers.
+    /// halt before; if fewer than `most` were made and the next one is, its word is given. There may be fewer
+    /// besides, or none: what the next turn is then, `advance` finds, but it is none to halt before. Owned
+    /// pages stay owned. Inlined.
     #[inline(always)]
     pub fn advance_several<H: Halts>(&mut self, halts: &H, most: u32) -> Made
         requires home { is_home self.old ≡ true }

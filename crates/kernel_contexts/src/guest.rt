@@ -195,7 +195,7 @@ impl GuestThread {
 
     /// Makes one turn of a thread that has not stopped. Up to the watched count it is an instruction. Where
     /// `apart` says that the thread is kept off its vectors, a turn that reads or writes them is not made,
-    /// and the answer is `NeedsBank`. It is laid into the loop that makes turns, where its answer needs no
+    /// and the answer is `NeedsBank`. Inlined into the loop that makes turns, where its answer needs no
     /// place in memory.
     #[inline(always)]
     fn make_turn<P: Port>(
@@ -233,10 +233,10 @@ impl GuestThread {
 
     /// Makes turns of a thread that has not stopped, `most` at most, and tells how many: instructions that
     /// are executed at once, up to the watched count, at which alone something else may be due; where `apart`
-    /// says that the thread is kept off its vectors, none that reads or writes them. It ends before one that
-    /// it is told to halt before, whose word it gives; where it made fewer than `most` and gives none, the
-    /// next one is none to halt before. Owned pages stay owned. It is laid into its callers, where alone the
-    /// loop is.
+    /// says that the thread is kept off its vectors, none that reads or writes them; and none that it is told
+    /// to halt before. If it gives a word, that is the next instruction's, and it is told to halt before it;
+    /// if it made fewer than `most` and gives none, the next one is none to halt before. Owned pages stay
+    /// owned. Inlined: the loop is in its callers alone.
     #[inline(always)]
     pub fn make_several_turns<H: Halts>(
         &mut self,
@@ -532,7 +532,8 @@ impl GuestThread {
     fn go_on(&mut self, event: Option<Event>) -> Turn
         requires count { self.old.count < self.old.config.budget }
         requires room { vec_len self.old.journal < vec_capacity self.old.journal }
-        requires within { self.old.earlier + vec_len self.old.journal + length (events_of event) ≤ JOURNAL_LIMIT }
+        requires within { self.old.earlier + vec_len self.old.journal + length (events_of event)
+            ≤ JOURNAL_LIMIT }
         ensures answer { result ≡ Turn.Ran }
         ensures state { bare_state self.new ≡ counted (bare_state self.old) (bare_state self.old).core }
         ensures machine { self.new.machine ≡ self.old.machine }

@@ -4,51 +4,20 @@ use Rattle.std.specs.Prelude.{MatchOption, IsTrue, Bool, cond}
 use Rattle.sm_types.specs.declared.insn.Insn.{Insn}
 use Rattle.sm_types.specs.declared.insn.Insn.TheVariants as insn
 use Rattle.sm_types.specs.declared.insn.LoadStore.{LoadStore}
-use Rattle.sm_types.specs.declared.insn.LoadStoreOp.TheVariants.{Load}
-use Rattle.sm_types.specs.declared.insn.AccessSize.TheVariants.{Doubleword}
-use Rattle.sm_types.specs.declared.insn.Address.TheVariants.{Offset}
 use Rattle.a64_table.specs.Ranges.{IsInRow, IsLoadStore}
 use Rattle.sve_table.specs.Groups.{is_vector_group}
 use Rattle.a64_encode.specs.Either.{instruction_of}
 use Rattle.scalar_exec.specs.Step.{is_scalar}
-use Rattle.scalar_exec.specs.Flat.{flat_insn, flat_value}
+use Rattle.scalar_exec.specs.Flat.{flat_insn, flat_rest, flat_value, first_of, IsFlatInRow, StepsTo, StepsFlat}
+use Rattle.scalar_exec.specs.Apart.{at_distance}
+use Rattle.sm_types.specs.declared.scalars.Scalars.{Scalars}
+use Rattle.machine_step.specs.Computed.{IsComputed}
+use Rattle.std.proofs.Common.{Option}
 use Rattle.scalar_exec.specs.declared.flat.Flat.{Flat}
 use Rattle.scalar_exec.specs.declared.flat.Flat.TheVariants as flat
 use Rattle.mem_access.specs.Transfer.{is_access}
 use Rattle.machine_step.specs.Needs.{uses_bank}
 use Rattle.machine_step.proofs.Known.{scalar_row}
-
-row_of : (x it : Insn) (word : ℕ) → word < 2 ^ 32 → instruction_of word ≡ Some it → Some x ≡ Some it → is_vector_group x ≡ false → IsInRow x
-row_of x it word lt is same group = scalar_row word x lt (is ∙ sym same) group
-
--- a flat instruction that says all of it is in its row
-pub flat_row : (f : Flat) (word : ℕ) (it : Insn) → word < 2 ^ 32 → instruction_of word ≡ Some it → flat_value f it ≡ Some it
-    → MatchOption (flat_insn f) Unit IsInRow
-unfolding is_vector_group
-flat_row (flat.AddImmediate imm rn rd) word it lt is same = row_of _ it word lt is same refl
-flat_row (flat.SubImmediate imm rn rd) word it lt is same = row_of _ it word lt is same refl
-flat_row (flat.AddsImmediate imm rn rd) word it lt is same = row_of _ it word lt is same refl
-flat_row (flat.SubsImmediate imm rn rd) word it lt is same = row_of _ it word lt is same refl
-flat_row (flat.Add rm rn rd) word it lt is same = row_of _ it word lt is same refl
-flat_row (flat.Sub rm rn rd) word it lt is same = row_of _ it word lt is same refl
-flat_row (flat.Adds rm rn rd) word it lt is same = row_of _ it word lt is same refl
-flat_row (flat.Subs rm rn rd) word it lt is same = row_of _ it word lt is same refl
-flat_row (flat.And rm rn rd) word it lt is same = row_of _ it word lt is same refl
-flat_row (flat.Orr rm rn rd) word it lt is same = row_of _ it word lt is same refl
-flat_row (flat.Eor rm rn rd) word it lt is same = row_of _ it word lt is same refl
-flat_row (flat.MultiplyAdd rm ra rn rd) word it lt is same = row_of _ it word lt is same refl
-flat_row (flat.Jump words) word it lt is same = row_of _ it word lt is same refl
-flat_row (flat.IfEqual words) word it lt is same = row_of _ it word lt is same refl
-flat_row (flat.IfUnequal words) word it lt is same = row_of _ it word lt is same refl
-flat_row (flat.If condition words) word it lt is same = row_of _ it word lt is same refl
-flat_row (flat.IfZero words rt) word it lt is same = row_of _ it word lt is same refl
-flat_row (flat.IfNonzero words rt) word it lt is same = row_of _ it word lt is same refl
-flat_row (flat.LoadDoubleword imm rn rt) word it lt is same = tt
-flat_row flat.Load word it lt is same = tt
-flat_row (flat.StoreDoubleword imm rn rt) word it lt is same = tt
-flat_row (flat.StoreNext offset rn rt) word it lt is same = tt
-flat_row flat.Scalar word it lt is same = tt
-flat_row flat.Other word it lt is same = tt
 
 pub scalar_group : (it : Insn) → IsTrue (is_scalar it) → is_vector_group it ≡ false
 unfolding is_vector_group
@@ -71,6 +40,40 @@ scalar_group (insn.TwoSource x) h = refl
 scalar_group (insn.Multiply x) h = refl
 scalar_group other h = cc
 
+row_by : (o rest : Option Insn) (word : ℕ) (it : Insn) → word < 2 ^ 32 → instruction_of word ≡ Some it → first_of o rest ≡ Some it
+    → MatchOption o Unit (λ i. IsTrue (is_scalar i) → IsInRow i)
+row_by None rest word it lt is same = tt
+row_by (Some x) rest word it lt is same = λ scalar. scalar_row word x lt (is ∙ sym same) (scalar_group x scalar)
+
+-- a flat instruction that says all of one of the scalar registers alone is in its row
+pub flat_row : (f : Flat) (word : ℕ) (it : Insn) → word < 2 ^ 32 → instruction_of word ≡ Some it → flat_value f it ≡ Some it
+    → IsFlatInRow f
+flat_row f word it lt is same = row_by (flat_insn f) (flat_rest f it) word it lt is same
+
+steps_by : (o rest : Option Insn) (word : ℕ) (it : Insn) (base at next : ℕ) (old new : Scalars) → instruction_of word ≡ Some it
+    → first_of o rest ≡ Some it
+    → MatchOption o ((Some next ≡ None) × (new ≡ old)) (λ i. StepsTo i base at (Some next) old new)
+    → IsComputed word (at_distance base at old) (at_distance base next new)
+steps_by None rest word it base at next old new is same h = cc
+steps_by (Some x) rest word it base at next old new is same h =
+    record { it = x; means = is ∙ sym same; scalar = h.0; is = h.1 }
+
+-- one that is executed
+pub flat_computed : (f : Flat) (word : ℕ) (it : Insn) (base at next : ℕ) (old new : Scalars) → instruction_of word ≡ Some it
+    → flat_value f it ≡ Some it → StepsFlat f base at (Some next) old new
+    → IsComputed word (at_distance base at old) (at_distance base next new)
+flat_computed f word it base at next old new is same h =
+    steps_by (flat_insn f) (flat_rest f it) word it base at next old new is same h
+
+stays_by : (o : Option Insn) (base at : ℕ) (old new : Scalars)
+    → MatchOption o ((◌≡◌ {A = Option ℕ} None None) × (new ≡ old)) (λ i. StepsTo i base at None old new) → new ≡ old
+stays_by None base at old new h = h.1
+stays_by (Some x) base at old new h = absurd h.1
+
+-- one that is not
+pub flat_stays : (f : Flat) (base at : ℕ) (old new : Scalars) → StepsFlat f base at None old new → new ≡ old
+flat_stays f base at old new h = stays_by (flat_insn f) base at old new h
+
 is_scalar_by : (b : Bool) (it : Insn) → cond b (Some it) None ≡ Some it → IsTrue b
 is_scalar_by true it h = refl
 is_scalar_by false it h = cc
@@ -83,14 +86,6 @@ scalar_by_flat f it is h = is_scalar_by (is_scalar it) it (ap (λ (g : Flat). fl
 pub load_row : (word : ℕ) (x : LoadStore) → word < 2 ^ 32 → instruction_of word ≡ Some (insn.LoadStore x) → IsLoadStore x
 unfolding is_vector_group
 load_row word x lt is = scalar_row word (insn.LoadStore x) lt is refl
-
-pub loaded_row : (f : Flat) (word : ℕ) (it : Insn) (imm rn rt : ℕ) → word < 2 ^ 32 → instruction_of word ≡ Some it
-    → f ≡ flat.LoadDoubleword imm rn rt → flat_value f it ≡ Some it
-    → IsLoadStore (record { op = Load; size = Doubleword; address = Offset imm; rn = rn; rt = rt })
-loaded_row f word it imm rn rt lt known is h =
-    let x : LoadStore = record { op = Load; size = Doubleword; address = Offset imm; rn = rn; rt = rt } in
-    let same : Some (insn.LoadStore x) ≡ Some it = ap (λ (g : Flat). flat_value g it) (sym is) ∙ h in
-    load_row word x lt (known ∙ sym same)
 
 -- accesses
 pub access_group : (it : Insn) → IsTrue (is_access it) → is_vector_group it ≡ false

@@ -8,7 +8,8 @@ use Rattle.machine_step.specs.declared.page_run.Next.TheVariants as next
 use Rattle.machine_step.specs.Several.{HaltsAt, halts_in}
 
 -- the instruction at PC is that of the place, and it is none to halt before
-pub record IsNext (halts : ℕ → ℕ → Bool) (m : AddressSpace) (places : List Decoded) (place : ℕ) (s : Scalars) : Type 0 where
+pub record IsNext (halts : ℕ → ℕ → Bool) (m : AddressSpace) (places : List Decoded) (place : ℕ) (s : Scalars)
+    : Type 0 where
   pub there : place < length places
   pub aligned : s.pc % 4 ≡ 0
   pub fetched : (d : Decoded) → word_at m s.pc ≡ Some (get_or places place d).word

@@ -1,5 +1,6 @@
 -- Some instructions, one after the other.
-use Rattle.std.specs.Prelude.{◌≡◌, ◌≤◌, ◌<◌, ◌&&◌, Bool, true, false, ℕ, zero, suc, Option, Some, None, MatchOption}
+use Rattle.std.specs.Prelude.{◌≡◌, ◌≤◌, ◌<◌, ◌&&◌, Bool, true, false, ℕ, zero, suc}
+use Rattle.std.specs.Prelude.{Option, Some, None, MatchOption}
 use Rattle.paged_memory.specs.Memory.{AddressSpace, word_at}
 use Rattle.paged_memory.specs.PageTable.{KeepsOwned}
 use Rattle.mem_access.specs.Bank.{bank_state}
@@ -34,16 +35,18 @@ AreExecuted halts apart vl (suc n) old new =
 abbrev pub HaltsAt : (ℕ → ℕ → Bool) → AddressSpace → ℕ → ℕ → Type 0
 HaltsAt halts m pc word = (word_at m pc ≡ Some word) × (halts pc word ≡ true)
 
--- that is so where a word is given; where none is and fewer were made than might be, it is none to halt before
+-- that is so if a word is given; if none is and fewer were made than might be, it is none to halt before;
+-- after as many as might be, no word need be given
 abbrev pub HaltsBy : (ℕ → ℕ → Bool) → AddressSpace → ℕ → ℕ → Made → Type 0
 HaltsBy halts m pc most made =
     MatchOption made.halt (made.count < most → halts_in halts m pc ≡ false) (λ word. HaltsAt halts m pc word)
 
--- so many instructions, at most so many, take a machine and its bank from the one to the other, and it ended
--- where it was told to halt; owned pages stay owned
-pub record MakesSteps (halts : ℕ → ℕ → Bool) (apart : Bool) (most : ℕ) (old : Machine) (before : Bank) (new : Machine) (after : Bank)
-    (made : Made) : Type 0 where
-  pub executed : AreExecuted halts apart (vector_bytes before.vectors.vl) made.count (core_of old (bank_state before))
+-- so many instructions, at most so many, take a machine and its bank from the one to the other; where it was
+-- told to halt before the next one, `HaltsBy` says; owned pages stay owned
+pub record MakesSteps (halts : ℕ → ℕ → Bool) (apart : Bool) (most : ℕ) (old : Machine) (before : Bank)
+    (new : Machine) (after : Bank) (made : Made) : Type 0 where
+  pub executed : AreExecuted halts apart (vector_bytes before.vectors.vl) made.count
+      (core_of old (bank_state before))
       (core_of new (bank_state after))
   pub few : made.count ≤ most
   pub halted : HaltsBy halts new.pages.memory new.scalars.pc most made

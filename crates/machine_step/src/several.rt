@@ -1,16 +1,12 @@
 //! Several instructions that are executed at once, one after the other, with no look at what else may be due.
-ghost use Rattle.std.specs.Prelude.{◌≡◌, ◌&&◌, ◌%◌, ℕ, Bool, IsTrue, IfOk, IfErr, Some, false};
-ghost use Rattle.sm_types.specs.declared.insn.Insn.TheVariants as insn;
-ghost use Rattle.a64_encode.specs.Either.{instruction_of};
-ghost use Rattle.mem_access.specs.Transfer.{is_access};
-ghost use Rattle.machine_step.specs.ProcessorState.{VectorState};
+ghost use Rattle.std.specs.Prelude.{◌≡◌, ◌&&◌, ◌%◌, ℕ, Bool, IfOk, IfErr, Some, false};
 ghost use Rattle.machine_step.specs.Next.{Follows};
 ghost use Rattle.paged_memory.specs.Memory.{word_at};
 ghost use Rattle.paged_memory.specs.PageTable.{KeepsOwned};
 ghost use Rattle.mem_access.specs.Bank.{bank_state};
 ghost use Rattle.machine_step.specs.Effect.{effect_of};
 ghost use Rattle.machine_step.specs.Needs.{needs_bank};
-ghost use Rattle.machine_step.specs.Machine.{core_of, AttemptsOn, IsInMode, IsSameBank, KeepsMode};
+ghost use Rattle.machine_step.specs.Machine.{core_of, AttemptsOn, IsInMode, IsSameBank};
 ghost use Rattle.machine_step.specs.Several.{MakesSteps, HaltsAt, halts_in};
 
 use crate::at_once::Attempt;
@@ -19,10 +15,9 @@ use crate::halts::Halts;
 use crate::machine::Machine;
 use crate::page_run::Next;
 use mem_access::Bank;
-use scalar_exec::Flat;
-use sm_types::{AccessSize, Address, Insn, LoadStore, LoadStoreOp};
 
-/// How many instructions were executed, and the word of the next one, where the run was told to halt before it.
+/// How many instructions were executed, and the word of the next one, if the run was told to halt before it.
+/// A run that executed as many as it might need not give that word.
 #[derive(Clone, Copy)]
 pub struct Made {
     pub count: u32,
@@ -30,12 +25,12 @@ pub struct Made {
 }
 
 impl Machine {
-    /// Executes instructions one after the other, `most` at most, and tells how many. It ends before one that
-    /// it is told to halt before, whose word it gives; before one that is not executed at once, that may raise
-    /// or ask, or for which memory is wanting; and, where `apart` says that the machine is kept off the bank,
-    /// before one that needs a bank. Where it made fewer than `most` and gives no word, the next one is none to
-    /// halt before. Owned pages stay owned; which come to them, the single step says. It is laid into the
-    /// function that makes turns by it.
+    /// Executes instructions one after the other, `most` at most, and tells how many: none that it is told to
+    /// halt before, and, if `apart` says that the machine is kept off the bank, none that needs a bank. If it
+    /// gives a word, that is the next instruction's, and it is told to halt before it; if it gives none and
+    /// executed fewer than `most`, the next one is none to halt before. No clause says why it makes no more:
+    /// it stops too before an instruction that may raise or ask, and for want of memory. Owned pages stay
+    /// owned; no clause says which others are owned then. Inlined.
     #[inline(always)]
     pub fn step_several<H: Halts>(
         &mut self,
@@ -55,8 +50,7 @@ impl Machine {
         }
     }
 
-    /// The same, laid in twice: the loop of a machine that has the bank asks no instruction whether it needs
-    /// one.
+    /// The same, inlined twice: the loop skips the test for a bank if the machine has the bank.
     #[inline(always)]
     fn make_steps<H: Halts>(
         &mut self,
@@ -71,7 +65,7 @@ impl Machine {
     {
         let mut done = 0;
         'steps: while done < most {
-            let (made, known) = self.run_known(decoder, halts, most - done);
+            let (made, known) = self.run_known(decoder, bank, halts, apart, most - done);
             done += made;
             if done == most {
                 return Made {
@@ -113,8 +107,8 @@ impl Machine {
     /// halt before.
     #[inline(always)]
     fn look<H: Halts>(&self, decoder: &Decoder, known: Next, halts: &H) -> Result<Next, u32>
-        requires next { Follows (H.halts halts.now) self.now.pages.memory decoder.now.places.items self.now.scalars
-            known }
+        requires next { Follows (H.halts halts.now) self.now.pages.memory decoder.now.places.items
+            self.now.scalars known }
         ensures next { IfOk result (λ next. Follows (H.halts halts.now) self.now.pages.memory
             decoder.now.places.items self.now.scalars next) }
         ensures unhalted { IfOk result (λ next. halts_in (H.halts halts.now) self.now.pages.memory
@@ -188,34 +182,7 @@ impl Machine {
         if self.wants(insn, apart) {
             return Attempt::Waits;
         }
-        match known.flat() {
-            Flat::StoreDoubleword { imm, rn, rt } => {
-                self.access_known(known.word(), &store_by(Address::Offset { imm }, rn, rt))
-            }
-            Flat::StoreNext { offset, rn, rt } => {
-                self.access_known(
-                    known.word(),
-                    &store_by(Address::PostIndex { offset }, rn, rt),
-                )
-            }
-            _ => self.attempt(known.word(), insn, bank),
-        }
-    }
-
-    /// Makes the access of a load or a store at once, which the word at PC means.
-    #[inline(always)]
-    fn access_known(&mut self, word: u32, insn: &Insn) -> Attempt
-        requires access { IsTrue (is_access insn.now) }
-        requires means { instruction_of word ≡ Some insn.now }
-        requires aligned { self.old.scalars.pc % 4 ≡ 0 }
-        requires fetched { word_at self.old.pages.memory self.old.scalars.pc ≡ Some word }
-        ensures effect { (bank : Bank) → AttemptsOn effect_of self.old bank self.new bank result }
-        ensures kept { (apart : Bool) (bank : VectorState)
-            → (apart && needs_bank (core_of self.old bank)) ≡ false }
-        ensures owned { KeepsOwned self.old.pages self.new.pages }
-        ensures mode { KeepsMode self.old self.new }
-    {
-        self.access_at_once(insn)
+        self.attempt(known.word(), insn, bank)
     }
 
     /// Executes the instruction of the word at PC at once, where it is one of these.
@@ -246,24 +213,4 @@ impl Machine {
         }
         self.execute_at_once(word, insn, bank)
     }
-}
-
-/// Stores 8 bytes.
-#[inline(always)]
-fn store_by(address: Address, rn: u8, rt: u8) -> Insn
-    ensures { result ≡ insn.LoadStore (record {
-      op = LoadStoreOp.Store;
-      size = AccessSize.Doubleword;
-      address = address;
-      rn = rn;
-      rt = rt;
-    }) }
-{
-    Insn::LoadStore(LoadStore {
-        op: LoadStoreOp::Store,
-        size: AccessSize::Doubleword,
-        address,
-        rn,
-        rt,
-    })
 }

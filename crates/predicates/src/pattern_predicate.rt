@@ -18,16 +18,6 @@ fn low_ones(count: u64) -> u8
     ones[count as usize]
 }
 
-/// How many bits of byte `i` of a predicate come before a bit.
-#[inline(always)]
-fn bits_before(end: u64, i: usize) -> u64
-    requires { i < 32 }
-    ensures few { result ≤ 8 }
-    ensures value { (k : ℕ) → k < 8 → nat_lt k result ≡ nat_lt (8 * i + k) end }
-{
-    end.saturating_sub(8 * i as u64).min(8)
-}
-
 /// The bit after those of the first elements, so many or all.
 #[inline(always)]
 fn end_of(limit: u64, size: Size, bytes: usize) -> u64
@@ -38,6 +28,26 @@ fn end_of(limit: u64, size: Size, bytes: usize) -> u64
     limit.min(count as u64) * size.bytes() as u64
 }
 
+/// Byte `i` of a predicate of which the bits before one are set, with those of the byte in which that one is.
+/// In bytes and without a table, so that a loop over bytes is vectorized.
+#[inline(always)]
+fn byte_before(end: u64, part: u8, i: usize) -> u8
+    requires i { i < 32 }
+    requires end { end ≤ 256 }
+    requires part { (k : ℕ) → k < 8 → (part / 2 ^ k % 2 == 1) ≡ nat_lt k (end % 8) }
+    ensures { (k : ℕ) → k < 8 → (result / 2 ^ k % 2 == 1) ≡ nat_lt (8 * i + k) end }
+{
+    let byte = i as u8;
+    let last = (end / 8) as u8;
+    if byte < last {
+        0xff
+    } else if byte == last {
+        part
+    } else {
+        0
+    }
+}
+
 /// Makes the first elements true, so many or all, and the others false; a byte of the predicate at a time.
 #[inline(always)]
 pub fn put_below(limit: u64, size: Size, pd: &mut [u8])
@@ -46,8 +56,9 @@ pub fn put_below(limit: u64, size: Size, pd: &mut [u8])
 {
     let bits = element_bits(size);
     let end = end_of(limit, size, pd.len());
+    let part = low_ones(end % 8);
     for i in 0..pd.len() {
-        let ones = low_ones(bits_before(end, i));
+        let ones = byte_before(end, part, i);
         pd[i] = bits & ones;
     }
     truths_tell_bytes(pd);

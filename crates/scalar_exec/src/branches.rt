@@ -21,7 +21,7 @@ pub fn address_at(base: u64, distance: i64) -> u64
 /// The address relative to PC or to its page.
 #[inline(always)]
 #[tactic(auto, unfolding(crate::specs::Branches::relative_address))]
-fn relative(op: PcRelativeOp, pc: u64, imm: i32) -> u64
+pub(crate) fn relative(op: PcRelativeOp, pc: u64, imm: i32) -> u64
     ensures { result ≡ relative_address op pc imm }
 {
     match op {
@@ -31,6 +31,7 @@ fn relative(op: PcRelativeOp, pc: u64, imm: i32) -> u64
 }
 
 /// An address relative to PC goes to a register.
+#[inline(always)]
 #[tactic(auto, unfolding(crate::specs::Branches::pc_relative))]
 pub fn exec_pc_relative(s: &mut Scalars, x: &PcRelative)
     requires { IsPcRelative x.now }
@@ -104,6 +105,7 @@ pub fn exec_branch(s: &mut Scalars, x: &Branch) -> Flow
 }
 
 /// Branches to the address in a register.
+#[inline(always)]
 #[tactic(auto, unfolding(crate::specs::Branches::branch_to, crate::specs::Step::flowed))]
 pub fn exec_branch_register(s: &mut Scalars, x: &BranchRegister) -> Flow
     requires { x.now.rn < 32 }

@@ -54,6 +54,7 @@ fn second(op: SelectOp, value: u64, wide: bool) -> u64
 }
 
 /// Takes one of two registers by a condition.
+#[inline(always)]
 #[tactic(auto, unfolding(crate::specs::Conditional::conditional_select))]
 pub fn exec_conditional_select(s: &mut Scalars, x: &ConditionalSelect)
     requires { IsConditionalSelect x.now }
@@ -111,6 +112,7 @@ fn flags(nzcv: u8) -> Nzcv
 }
 
 /// Compares where a condition holds, and else sets the flags of the instruction.
+#[inline(always)]
 #[tactic(auto, unfolding(crate::specs::Conditional::conditional_compare))]
 pub fn exec_conditional_compare(s: &mut Scalars, x: &ConditionalCompare)
     requires { IsConditionalCompare x.now }

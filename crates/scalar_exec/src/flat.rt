@@ -1,48 +1,170 @@
 //! Instructions with their first tests taken in advance, so that one jump leads to what each does.
-ghost use Rattle.std.specs.Prelude.{◌≡◌, MatchOption, IsTrue, true, false};
-ghost use Rattle.sm_types.specs.declared.insn.Insn.TheVariants as insn;
+ghost use Rattle.std.specs.Prelude.{◌≡◌, IsTrue, ℕ, None, Some};
+ghost use Rattle.sm_types.specs.declared.scalars.Scalars.{Scalars};
+ghost use Rattle.sm_types.specs.declared.insn.Insn.{Insn};
+ghost use Rattle.scalar_exec.specs.declared.flat.Flat.{Flat};
 ghost use Rattle.a64_table.specs.Ranges.{IsInRow};
 ghost use Rattle.scalar_exec.specs.Step.{scalar_step, is_scalar, flowed};
-ghost use Rattle.scalar_exec.specs.Flat.{flat_insn, IsFlatOf};
+ghost use Rattle.scalar_exec.specs.Flat.{IsFlatOf, IsFlatInRow, StepsTo, StepsFlat};
 
 use crate::exec::{Flow, exec_scalar};
+use crate::forms::{
+    branch_always, branch_by, branch_by_bit, branch_if, branch_to, compared, compared_immediate,
+    field_move, halfword_move, high_product, logical, logical_shifted, long_product, masked,
+    product, selected, sum_extended, sum_immediate, sum_register, sum_shifted, two_sources,
+    write_address,
+};
+use crate::payloads::{
+    Base, BitFields, Comparison, Extended, Factors, Halfword, Immediate, IndexedPair, LeftShifted,
+    OffsetAccess, Pair, Registers, Selection, Shifted,
+};
 use crate::registers::next_address;
 use sm_types::{
-    AccessSize, AddSub, AddSubImmediate, AddSubRegister, Address, Branch, Condition, Insn,
-    LoadStore, LoadStoreOp, Logical, LogicalRegister, Multiply, Scalars, ShiftKind,
-    ShiftedRegister,
+    AddSub, Address, BitfieldOp, BranchRegisterOp, Condition, Insn, Logical, MoveOp, PcRelativeOp,
+    Scalars, SelectOp, TwoSourceOp,
 };
 
-/// An instruction by what it does: each of the first ones says all of the instruction, a wide one that
-/// neither shifts nor inverts.
+/// An instruction by what it does: each but `Scalar` and `Other` says all of it. What is not said
+/// to be narrow is of 64 bits.
 #[derive(Clone, Copy)]
 pub enum Flat {
-    AddImmediate { imm: u16, rn: u8, rd: u8 },
-    SubImmediate { imm: u16, rn: u8, rd: u8 },
-    AddsImmediate { imm: u16, rn: u8, rd: u8 },
-    SubsImmediate { imm: u16, rn: u8, rd: u8 },
-    Add { rm: u8, rn: u8, rd: u8 },
-    Sub { rm: u8, rn: u8, rd: u8 },
-    Adds { rm: u8, rn: u8, rd: u8 },
-    Subs { rm: u8, rn: u8, rd: u8 },
-    And { rm: u8, rn: u8, rd: u8 },
-    Orr { rm: u8, rn: u8, rd: u8 },
-    Eor { rm: u8, rn: u8, rd: u8 },
-    MultiplyAdd { rm: u8, ra: u8, rn: u8, rd: u8 },
+    // Sums with an immediate.
+    AddImmediate(Immediate),
+    SubImmediate(Immediate),
+    AddsImmediate(Immediate),
+    SubsImmediate(Immediate),
+    NarrowAddImmediate(Immediate),
+    NarrowSubImmediate(Immediate),
+    NarrowAddsImmediate(Immediate),
+    NarrowSubsImmediate(Immediate),
+    // Sums of two registers.
+    Add(Registers),
+    Sub(Registers),
+    Adds(Registers),
+    Subs(Registers),
+    NarrowAdd(Registers),
+    NarrowSub(Registers),
+    NarrowAdds(Registers),
+    NarrowSubs(Registers),
+    AddShifted(LeftShifted),
+    SubShifted(LeftShifted),
+    AddExtended(Extended),
+    // Logical operations on two registers.
+    And(Registers),
+    Orr(Registers),
+    Eor(Registers),
+    Ands(Registers),
+    NarrowAnd(Registers),
+    NarrowOrr(Registers),
+    NarrowEor(Registers),
+    NarrowAnds(Registers),
+    Bic(Registers),
+    Orn(Registers),
+    AndShifted(Shifted),
+    OrrShifted(Shifted),
+    EorShifted(Shifted),
+    // Logical operations with a mask whose elements are as long as the word.
+    AndMask(BitFields),
+    OrrMask(BitFields),
+    EorMask(BitFields),
+    AndsMask(BitFields),
+    NarrowAndMask(BitFields),
+    NarrowOrrMask(BitFields),
+    NarrowEorMask(BitFields),
+    NarrowAndsMask(BitFields),
+    // Moves of halfwords and of bit fields.
+    Movz(Halfword),
+    Movn(Halfword),
+    Movk(Halfword),
+    NarrowMovz(Halfword),
+    NarrowMovn(Halfword),
+    NarrowMovk(Halfword),
+    Ubfm(BitFields),
+    Sbfm(BitFields),
+    NarrowUbfm(BitFields),
+    NarrowSbfm(BitFields),
+    // Selections and comparisons by a condition.
+    Csel(Selection),
+    Csinc(Selection),
+    Csinv(Selection),
+    Csneg(Selection),
+    NarrowCsel(Selection),
+    NarrowCsinc(Selection),
+    NarrowCsinv(Selection),
+    NarrowCsneg(Selection),
+    Ccmp(Comparison),
+    CcmpImmediate(Comparison),
+    NarrowCcmp(Comparison),
+    NarrowCcmpImmediate(Comparison),
+    // Divisions, shifts by a register, and products.
+    Udiv(Registers),
+    Sdiv(Registers),
+    Lslv(Registers),
+    Lsrv(Registers),
+    Asrv(Registers),
+    Rorv(Registers),
+    NarrowUdiv(Registers),
+    NarrowSdiv(Registers),
+    NarrowLslv(Registers),
+    NarrowLsrv(Registers),
+    NarrowAsrv(Registers),
+    NarrowRorv(Registers),
+    MultiplyAdd(Factors),
+    MultiplySubtract(Factors),
+    NarrowMultiplyAdd(Factors),
+    NarrowMultiplySubtract(Factors),
+    Umaddl(Factors),
+    Smaddl(Factors),
+    Umulh(Registers),
+    Smulh(Registers),
+    // Branches, and addresses relative to PC.
     Jump { words: i32 },
+    Call { words: i32 },
     IfEqual { words: i32 },
     IfUnequal { words: i32 },
     If { condition: Condition, words: i32 },
-    IfZero { words: i32, rt: u8 },
-    IfNonzero { words: i32, rt: u8 },
-    /// Loads 8 bytes.
-    LoadDoubleword { imm: u16, rn: u8, rt: u8 },
-    /// Another load of one register.
-    Load,
-    /// Stores 8 bytes.
-    StoreDoubleword { imm: u16, rn: u8, rt: u8 },
-    /// Stores 8 bytes, and then moves the base.
-    StoreNext { offset: i32, rn: u8, rt: u8 },
+    IfZero { rt: u8, words: i32 },
+    IfNonzero { rt: u8, words: i32 },
+    NarrowIfZero { rt: u8, words: i32 },
+    NarrowIfNonzero { rt: u8, words: i32 },
+    IfClear { bit: u8, rt: u8, words: i32 },
+    IfSet { bit: u8, rt: u8, words: i32 },
+    JumpTo { rn: u8 },
+    CallTo { rn: u8 },
+    Return { rn: u8 },
+    Address { rd: u8, imm: i32 },
+    PageAddress { rd: u8, imm: i32 },
+    // Loads and stores, with an immediate offset or another address.
+    LoadDoubleword(OffsetAccess),
+    LoadWord(OffsetAccess),
+    LoadHalfword(OffsetAccess),
+    LoadByte(OffsetAccess),
+    LoadSignedWord(OffsetAccess),
+    LoadSignedHalfword(OffsetAccess),
+    LoadSignedByte(OffsetAccess),
+    NarrowLoadSignedHalfword(OffsetAccess),
+    NarrowLoadSignedByte(OffsetAccess),
+    StoreDoubleword(OffsetAccess),
+    StoreWord(OffsetAccess),
+    StoreHalfword(OffsetAccess),
+    StoreByte(OffsetAccess),
+    LoadDoublewordAt(Base, Address),
+    LoadWordAt(Base, Address),
+    LoadHalfwordAt(Base, Address),
+    LoadByteAt(Base, Address),
+    LoadSignedWordAt(Base, Address),
+    LoadSignedHalfwordAt(Base, Address),
+    LoadSignedByteAt(Base, Address),
+    NarrowLoadSignedHalfwordAt(Base, Address),
+    NarrowLoadSignedByteAt(Base, Address),
+    StoreDoublewordAt(Base, Address),
+    StoreWordAt(Base, Address),
+    StoreHalfwordAt(Base, Address),
+    StoreByteAt(Base, Address),
+    LoadPair(Pair),
+    StorePair(Pair),
+    LoadPairAt(IndexedPair),
+    StorePairAt(IndexedPair),
     /// Another that reads and writes scalar registers alone.
     Scalar,
     /// Any other.
@@ -72,349 +194,162 @@ pub fn exec_next(s: &mut Scalars, insn: &Insn)
     move_pc(s, flow);
 }
 
-/// Adds or subtracts an immediate.
+/// Executes a flat instruction that says all of one of the scalar registers alone, with PC at a distance
+/// from an address: gives the distance of the next one. PC itself is neither read nor written.
 #[inline(always)]
-fn sum_immediate(op: AddSub, imm: u16, rn: u8, rd: u8) -> Insn
-    ensures { result ≡ insn.AddSubImmediate (record {
-      op = op;
-      wide = true;
-      shifted = false;
-      imm = imm;
-      rn = rn;
-      rd = rd;
-    }) }
+pub fn exec_at(s: &mut Scalars, flat: &Flat, base: u64, at: u64) -> Option<u64>
+    requires { IsFlatInRow flat.now }
+    ensures { StepsFlat flat.now base at result s.old s.new }
 {
-    Insn::AddSubImmediate(AddSubImmediate {
-        op,
-        wide: true,
-        shifted: false,
-        imm,
-        rn,
-        rd,
-    })
-}
-
-/// A register that is not shifted.
-#[inline(always)]
-fn unshifted(rm: u8) -> ShiftedRegister
-    ensures { result ≡ record { rm = rm; shift = ShiftKind.Lsl; amount = 0 } }
-{
-    ShiftedRegister {
-        rm,
-        shift: ShiftKind::Lsl,
-        amount: 0,
-    }
-}
-
-/// Adds or subtracts a register.
-#[inline(always)]
-fn sum(op: AddSub, rm: u8, rn: u8, rd: u8) -> Insn
-    ensures { result ≡ insn.AddSubRegister (record {
-      op = op;
-      wide = true;
-      operand = record { rm = rm; shift = ShiftKind.Lsl; amount = 0 };
-      rn = rn;
-      rd = rd;
-    }) }
-{
-    Insn::AddSubRegister(AddSubRegister {
-        op,
-        wide: true,
-        operand: unshifted(rm),
-        rn,
-        rd,
-    })
-}
-
-/// Combines two registers.
-#[inline(always)]
-fn logical(op: Logical, rm: u8, rn: u8, rd: u8) -> Insn
-    ensures { result ≡ insn.LogicalRegister (record {
-      op = op;
-      wide = true;
-      inverted = false;
-      operand = record { rm = rm; shift = ShiftKind.Lsl; amount = 0 };
-      rn = rn;
-      rd = rd;
-    }) }
-{
-    Insn::LogicalRegister(LogicalRegister {
-        op,
-        wide: true,
-        inverted: false,
-        operand: unshifted(rm),
-        rn,
-        rd,
-    })
-}
-
-/// Executes a flat instruction that says all of it, and tells whether it does.
-#[inline(always)]
-pub fn exec_flat(s: &mut Scalars, flat: &Flat) -> bool
-    requires { MatchOption (flat_insn flat.now) Unit IsInRow }
-    ensures { MatchOption (flat_insn flat.now) ((result ≡ false) × (s.new ≡ s.old))
-        (λ it. (result ≡ true) × (s.new ≡ scalar_step it s.old)) }
-{
-    match flat {
-        Flat::AddImmediate { imm, rn, rd } => exec_next(
+    match *flat {
+        Flat::AddImmediate(x) => Some(sum_immediate(s, at, AddSub::Add, true, x)),
+        Flat::SubImmediate(x) => Some(sum_immediate(s, at, AddSub::Sub, true, x)),
+        Flat::AddsImmediate(x) => Some(sum_immediate(s, at, AddSub::Adds, true, x)),
+        Flat::SubsImmediate(x) => Some(sum_immediate(s, at, AddSub::Subs, true, x)),
+        Flat::NarrowAddImmediate(x) => Some(sum_immediate(s, at, AddSub::Add, false, x)),
+        Flat::NarrowSubImmediate(x) => Some(sum_immediate(s, at, AddSub::Sub, false, x)),
+        Flat::NarrowAddsImmediate(x) => Some(sum_immediate(s, at, AddSub::Adds, false, x)),
+        Flat::NarrowSubsImmediate(x) => Some(sum_immediate(s, at, AddSub::Subs, false, x)),
+        Flat::Add(x) => Some(sum_register(s, at, AddSub::Add, true, x)),
+        Flat::Sub(x) => Some(sum_register(s, at, AddSub::Sub, true, x)),
+        Flat::Adds(x) => Some(sum_register(s, at, AddSub::Adds, true, x)),
+        Flat::Subs(x) => Some(sum_register(s, at, AddSub::Subs, true, x)),
+        Flat::NarrowAdd(x) => Some(sum_register(s, at, AddSub::Add, false, x)),
+        Flat::NarrowSub(x) => Some(sum_register(s, at, AddSub::Sub, false, x)),
+        Flat::NarrowAdds(x) => Some(sum_register(s, at, AddSub::Adds, false, x)),
+        Flat::NarrowSubs(x) => Some(sum_register(s, at, AddSub::Subs, false, x)),
+        Flat::AddShifted(x) => Some(sum_shifted(s, at, AddSub::Add, x)),
+        Flat::SubShifted(x) => Some(sum_shifted(s, at, AddSub::Sub, x)),
+        Flat::AddExtended(x) => Some(sum_extended(s, at, x)),
+        Flat::And(x) => Some(logical(s, at, Logical::And, true, false, x)),
+        Flat::Orr(x) => Some(logical(s, at, Logical::Orr, true, false, x)),
+        Flat::Eor(x) => Some(logical(s, at, Logical::Eor, true, false, x)),
+        Flat::Ands(x) => Some(logical(s, at, Logical::Ands, true, false, x)),
+        Flat::NarrowAnd(x) => Some(logical(s, at, Logical::And, false, false, x)),
+        Flat::NarrowOrr(x) => Some(logical(s, at, Logical::Orr, false, false, x)),
+        Flat::NarrowEor(x) => Some(logical(s, at, Logical::Eor, false, false, x)),
+        Flat::NarrowAnds(x) => Some(logical(s, at, Logical::Ands, false, false, x)),
+        Flat::Bic(x) => Some(logical(s, at, Logical::And, true, true, x)),
+        Flat::Orn(x) => Some(logical(s, at, Logical::Orr, true, true, x)),
+        Flat::AndShifted(x) => Some(logical_shifted(s, at, Logical::And, x)),
+        Flat::OrrShifted(x) => Some(logical_shifted(s, at, Logical::Orr, x)),
+        Flat::EorShifted(x) => Some(logical_shifted(s, at, Logical::Eor, x)),
+        Flat::AndMask(x) => Some(masked(s, at, Logical::And, true, x)),
+        Flat::OrrMask(x) => Some(masked(s, at, Logical::Orr, true, x)),
+        Flat::EorMask(x) => Some(masked(s, at, Logical::Eor, true, x)),
+        Flat::AndsMask(x) => Some(masked(s, at, Logical::Ands, true, x)),
+        Flat::NarrowAndMask(x) => Some(masked(s, at, Logical::And, false, x)),
+        Flat::NarrowOrrMask(x) => Some(masked(s, at, Logical::Orr, false, x)),
+        Flat::NarrowEorMask(x) => Some(masked(s, at, Logical::Eor, false, x)),
+        Flat::NarrowAndsMask(x) => Some(masked(s, at, Logical::Ands, false, x)),
+        Flat::Movz(x) => Some(halfword_move(s, at, MoveOp::Movz, true, x)),
+        Flat::Movn(x) => Some(halfword_move(s, at, MoveOp::Movn, true, x)),
+        Flat::Movk(x) => Some(halfword_move(s, at, MoveOp::Movk, true, x)),
+        Flat::NarrowMovz(x) => Some(halfword_move(s, at, MoveOp::Movz, false, x)),
+        Flat::NarrowMovn(x) => Some(halfword_move(s, at, MoveOp::Movn, false, x)),
+        Flat::NarrowMovk(x) => Some(halfword_move(s, at, MoveOp::Movk, false, x)),
+        Flat::Ubfm(x) => Some(field_move(s, at, BitfieldOp::Ubfm, true, x)),
+        Flat::Sbfm(x) => Some(field_move(s, at, BitfieldOp::Sbfm, true, x)),
+        Flat::NarrowUbfm(x) => Some(field_move(s, at, BitfieldOp::Ubfm, false, x)),
+        Flat::NarrowSbfm(x) => Some(field_move(s, at, BitfieldOp::Sbfm, false, x)),
+        Flat::Csel(x) => Some(selected(s, at, SelectOp::Csel, true, x)),
+        Flat::Csinc(x) => Some(selected(s, at, SelectOp::Csinc, true, x)),
+        Flat::Csinv(x) => Some(selected(s, at, SelectOp::Csinv, true, x)),
+        Flat::Csneg(x) => Some(selected(s, at, SelectOp::Csneg, true, x)),
+        Flat::NarrowCsel(x) => Some(selected(s, at, SelectOp::Csel, false, x)),
+        Flat::NarrowCsinc(x) => Some(selected(s, at, SelectOp::Csinc, false, x)),
+        Flat::NarrowCsinv(x) => Some(selected(s, at, SelectOp::Csinv, false, x)),
+        Flat::NarrowCsneg(x) => Some(selected(s, at, SelectOp::Csneg, false, x)),
+        Flat::Ccmp(x) => Some(compared(s, at, true, x)),
+        Flat::CcmpImmediate(x) => Some(compared_immediate(s, at, true, x)),
+        Flat::NarrowCcmp(x) => Some(compared(s, at, false, x)),
+        Flat::NarrowCcmpImmediate(x) => Some(compared_immediate(s, at, false, x)),
+        Flat::Udiv(x) => Some(two_sources(s, at, TwoSourceOp::Udiv, true, x)),
+        Flat::Sdiv(x) => Some(two_sources(s, at, TwoSourceOp::Sdiv, true, x)),
+        Flat::Lslv(x) => Some(two_sources(s, at, TwoSourceOp::Lslv, true, x)),
+        Flat::Lsrv(x) => Some(two_sources(s, at, TwoSourceOp::Lsrv, true, x)),
+        Flat::Asrv(x) => Some(two_sources(s, at, TwoSourceOp::Asrv, true, x)),
+        Flat::Rorv(x) => Some(two_sources(s, at, TwoSourceOp::Rorv, true, x)),
+        Flat::NarrowUdiv(x) => Some(two_sources(s, at, TwoSourceOp::Udiv, false, x)),
+        Flat::NarrowSdiv(x) => Some(two_sources(s, at, TwoSourceOp::Sdiv, false, x)),
+        Flat::NarrowLslv(x) => Some(two_sources(s, at, TwoSourceOp::Lslv, false, x)),
+        Flat::NarrowLsrv(x) => Some(two_sources(s, at, TwoSourceOp::Lsrv, false, x)),
+        Flat::NarrowAsrv(x) => Some(two_sources(s, at, TwoSourceOp::Asrv, false, x)),
+        Flat::NarrowRorv(x) => Some(two_sources(s, at, TwoSourceOp::Rorv, false, x)),
+        Flat::MultiplyAdd(x) => Some(product(s, at, false, true, x)),
+        Flat::MultiplySubtract(x) => Some(product(s, at, true, true, x)),
+        Flat::NarrowMultiplyAdd(x) => Some(product(s, at, false, false, x)),
+        Flat::NarrowMultiplySubtract(x) => Some(product(s, at, true, false, x)),
+        Flat::Umaddl(x) => Some(long_product(s, at, false, x)),
+        Flat::Smaddl(x) => Some(long_product(s, at, true, x)),
+        Flat::Umulh(x) => Some(high_product(s, at, false, x)),
+        Flat::Smulh(x) => Some(high_product(s, at, true, x)),
+        Flat::Jump { words } => Some(branch_always(s, base, at, false, words)),
+        Flat::Call { words } => Some(branch_always(s, base, at, true, words)),
+        Flat::IfEqual { words } => Some(branch_if(s, base, at, Condition::Eq, words)),
+        Flat::IfUnequal { words } => Some(branch_if(s, base, at, Condition::Ne, words)),
+        Flat::If { condition, words } => Some(branch_if(s, base, at, condition, words)),
+        Flat::IfZero { rt, words } => Some(branch_by(s, base, at, false, true, rt, words)),
+        Flat::IfNonzero { rt, words } => Some(branch_by(s, base, at, true, true, rt, words)),
+        Flat::NarrowIfZero { rt, words } => Some(branch_by(s, base, at, false, false, rt, words)),
+        Flat::NarrowIfNonzero { rt, words } => Some(branch_by(s, base, at, true, false, rt, words)),
+        Flat::IfClear { bit, rt, words } => Some(branch_by_bit(s, base, at, false, bit, rt, words)),
+        Flat::IfSet { bit, rt, words } => Some(branch_by_bit(s, base, at, true, bit, rt, words)),
+        Flat::JumpTo { rn } => Some(branch_to(s, base, at, BranchRegisterOp::Br, rn)),
+        Flat::CallTo { rn } => Some(branch_to(s, base, at, BranchRegisterOp::Blr, rn)),
+        Flat::Return { rn } => Some(branch_to(s, base, at, BranchRegisterOp::Ret, rn)),
+        Flat::Address { rd, imm } => Some(write_address(s, base, at, PcRelativeOp::Adr, imm, rd)),
+        Flat::PageAddress { rd, imm } => Some(write_address(
             s,
-            &sum_immediate(AddSub::Add, *imm, *rn, *rd),
-        ),
-        Flat::SubImmediate { imm, rn, rd } => exec_next(
-            s,
-            &sum_immediate(AddSub::Sub, *imm, *rn, *rd),
-        ),
-        Flat::AddsImmediate { imm, rn, rd } => exec_next(
-            s,
-            &sum_immediate(AddSub::Adds, *imm, *rn, *rd),
-        ),
-        Flat::SubsImmediate { imm, rn, rd } => exec_next(
-            s,
-            &sum_immediate(AddSub::Subs, *imm, *rn, *rd),
-        ),
-        Flat::Add { rm, rn, rd } => exec_next(s, &sum(AddSub::Add, *rm, *rn, *rd)),
-        Flat::Sub { rm, rn, rd } => exec_next(s, &sum(AddSub::Sub, *rm, *rn, *rd)),
-        Flat::Adds { rm, rn, rd } => exec_next(s, &sum(AddSub::Adds, *rm, *rn, *rd)),
-        Flat::Subs { rm, rn, rd } => exec_next(s, &sum(AddSub::Subs, *rm, *rn, *rd)),
-        Flat::And { rm, rn, rd } => exec_next(s, &logical(Logical::And, *rm, *rn, *rd)),
-        Flat::Orr { rm, rn, rd } => exec_next(s, &logical(Logical::Orr, *rm, *rn, *rd)),
-        Flat::Eor { rm, rn, rd } => exec_next(s, &logical(Logical::Eor, *rm, *rn, *rd)),
-        Flat::MultiplyAdd { rm, ra, rn, rd } => {
-            let x = Multiply::Same {
-                subtract: false,
-                wide: true,
-                rm: *rm,
-                ra: *ra,
-                rn: *rn,
-                rd: *rd,
-            };
-            exec_next(s, &Insn::Multiply(x));
-        }
-        Flat::Jump { words } => {
-            let x = Branch::Unconditional {
-                link: false,
-                words: *words,
-            };
-            exec_next(s, &Insn::Branch(x));
-        }
-        Flat::IfEqual { words } => {
-            let x = Branch::Conditional {
-                condition: Condition::Eq,
-                words: *words,
-            };
-            exec_next(s, &Insn::Branch(x));
-        }
-        Flat::IfUnequal { words } => {
-            let x = Branch::Conditional {
-                condition: Condition::Ne,
-                words: *words,
-            };
-            exec_next(s, &Insn::Branch(x));
-        }
-        Flat::If { condition, words } => {
-            let x = Branch::Conditional {
-                condition: *condition,
-                words: *words,
-            };
-            exec_next(s, &Insn::Branch(x));
-        }
-        Flat::IfZero { words, rt } => {
-            let x = Branch::Compare {
-                nonzero: false,
-                wide: true,
-                words: *words,
-                rt: *rt,
-            };
-            exec_next(s, &Insn::Branch(x));
-        }
-        Flat::IfNonzero { words, rt } => {
-            let x = Branch::Compare {
-                nonzero: true,
-                wide: true,
-                words: *words,
-                rt: *rt,
-            };
-            exec_next(s, &Insn::Branch(x));
-        }
-        Flat::LoadDoubleword {
-            imm: _,
-            rn: _,
-            rt: _,
-        }
-        | Flat::Load
-        | Flat::StoreDoubleword {
-            imm: _,
-            rn: _,
-            rt: _,
-        }
-        | Flat::StoreNext {
-            offset: _,
-            rn: _,
-            rt: _,
-        }
-        | Flat::Scalar
-        | Flat::Other => return false,
-    }
-    true
-}
-
-/// The flat one of a sum with an immediate.
-fn flat_sum_immediate(x: &AddSubImmediate) -> Flat
-    ensures { IsFlatOf result (insn.AddSubImmediate x.now) }
-{
-    let AddSubImmediate {
-        op,
-        wide,
-        shifted,
-        imm,
-        rn,
-        rd,
-    } = *x;
-    match (op, wide, shifted) {
-        (AddSub::Add, true, false) => Flat::AddImmediate { imm, rn, rd },
-        (AddSub::Sub, true, false) => Flat::SubImmediate { imm, rn, rd },
-        (AddSub::Adds, true, false) => Flat::AddsImmediate { imm, rn, rd },
-        (AddSub::Subs, true, false) => Flat::SubsImmediate { imm, rn, rd },
-        _ => Flat::Scalar,
-    }
-}
-
-/// The flat one of a sum of two registers.
-fn flat_sum(x: &AddSubRegister) -> Flat
-    ensures { IsFlatOf result (insn.AddSubRegister x.now) }
-{
-    let AddSubRegister {
-        op,
-        wide,
-        operand,
-        rn,
-        rd,
-    } = *x;
-    let ShiftedRegister { rm, shift, amount } = operand;
-    match (op, wide, shift, amount) {
-        (AddSub::Add, true, ShiftKind::Lsl, 0) => Flat::Add { rm, rn, rd },
-        (AddSub::Sub, true, ShiftKind::Lsl, 0) => Flat::Sub { rm, rn, rd },
-        (AddSub::Adds, true, ShiftKind::Lsl, 0) => Flat::Adds { rm, rn, rd },
-        (AddSub::Subs, true, ShiftKind::Lsl, 0) => Flat::Subs { rm, rn, rd },
-        _ => Flat::Scalar,
-    }
-}
-
-/// The flat one of a logical operation on two registers.
-fn flat_logical(x: &LogicalRegister) -> Flat
-    ensures { IsFlatOf result (insn.LogicalRegister x.now) }
-{
-    let LogicalRegister {
-        op,
-        wide,
-        inverted,
-        operand,
-        rn,
-        rd,
-    } = *x;
-    let ShiftedRegister { rm, shift, amount } = operand;
-    match (op, wide, inverted, shift, amount) {
-        (Logical::And, true, false, ShiftKind::Lsl, 0) => Flat::And { rm, rn, rd },
-        (Logical::Orr, true, false, ShiftKind::Lsl, 0) => Flat::Orr { rm, rn, rd },
-        (Logical::Eor, true, false, ShiftKind::Lsl, 0) => Flat::Eor { rm, rn, rd },
-        _ => Flat::Scalar,
-    }
-}
-
-/// The flat one of a branch.
-fn flat_branch(x: &Branch) -> Flat
-    ensures { IsFlatOf result (insn.Branch x.now) }
-{
-    match *x {
-        Branch::Unconditional { link: false, words } => Flat::Jump { words },
-        Branch::Conditional {
-            condition: Condition::Eq,
-            words,
-        } => Flat::IfEqual { words },
-        Branch::Conditional {
-            condition: Condition::Ne,
-            words,
-        } => Flat::IfUnequal { words },
-        Branch::Conditional { condition, words } => Flat::If { condition, words },
-        Branch::Compare {
-            nonzero: false,
-            wide: true,
-            words,
-            rt,
-        } => Flat::IfZero { words, rt },
-        Branch::Compare {
-            nonzero: true,
-            wide: true,
-            words,
-            rt,
-        } => Flat::IfNonzero { words, rt },
-        _ => Flat::Scalar,
-    }
-}
-
-/// The flat one of a multiplication.
-fn flat_multiply(x: &Multiply) -> Flat
-    ensures { IsFlatOf result (insn.Multiply x.now) }
-{
-    match *x {
-        Multiply::Same {
-            subtract: false,
-            wide: true,
-            rm,
-            ra,
-            rn,
+            base,
+            at,
+            PcRelativeOp::Adrp,
+            imm,
             rd,
-        } => Flat::MultiplyAdd { rm, ra, rn, rd },
-        _ => Flat::Scalar,
+        )),
+        Flat::LoadDoubleword(_) => None,
+        Flat::LoadWord(_) => None,
+        Flat::LoadHalfword(_) => None,
+        Flat::LoadByte(_) => None,
+        Flat::LoadSignedWord(_) => None,
+        Flat::LoadSignedHalfword(_) => None,
+        Flat::LoadSignedByte(_) => None,
+        Flat::NarrowLoadSignedHalfword(_) => None,
+        Flat::NarrowLoadSignedByte(_) => None,
+        Flat::StoreDoubleword(_) => None,
+        Flat::StoreWord(_) => None,
+        Flat::StoreHalfword(_) => None,
+        Flat::StoreByte(_) => None,
+        Flat::LoadDoublewordAt(_, _) => None,
+        Flat::LoadWordAt(_, _) => None,
+        Flat::LoadHalfwordAt(_, _) => None,
+        Flat::LoadByteAt(_, _) => None,
+        Flat::LoadSignedWordAt(_, _) => None,
+        Flat::LoadSignedHalfwordAt(_, _) => None,
+        Flat::LoadSignedByteAt(_, _) => None,
+        Flat::NarrowLoadSignedHalfwordAt(_, _) => None,
+        Flat::NarrowLoadSignedByteAt(_, _) => None,
+        Flat::StoreDoublewordAt(_, _) => None,
+        Flat::StoreWordAt(_, _) => None,
+        Flat::StoreHalfwordAt(_, _) => None,
+        Flat::StoreByteAt(_, _) => None,
+        Flat::LoadPair(_) => None,
+        Flat::StorePair(_) => None,
+        Flat::LoadPairAt(_) => None,
+        Flat::StorePairAt(_) => None,
+        Flat::Scalar => None,
+        Flat::Other => None,
     }
 }
 
-/// The flat one of a load or a store of one register.
-fn flat_access(x: &LoadStore) -> Flat
-    ensures { IsFlatOf result (insn.LoadStore x.now) }
-{
-    let LoadStore {
-        op,
-        size,
-        address,
-        rn,
-        rt,
-    } = *x;
-    match (op, size, address) {
-        (LoadStoreOp::Load, AccessSize::Doubleword, Address::Offset { imm }) =>
-            Flat::LoadDoubleword { imm, rn, rt },
-        (LoadStoreOp::Store, AccessSize::Doubleword, Address::Offset { imm }) =>
-            Flat::StoreDoubleword { imm, rn, rt },
-        (LoadStoreOp::Store, AccessSize::Doubleword, Address::PostIndex { offset }) =>
-            Flat::StoreNext { offset, rn, rt },
-        (LoadStoreOp::Store, _, _) => Flat::Other,
-        _ => Flat::Load,
-    }
-}
-
-/// The flat one of an instruction.
-pub fn flatten(insn: &Insn) -> Flat
-    ensures { IsFlatOf result insn.now }
-{
-    match insn {
-        Insn::AddSubImmediate(x) => flat_sum_immediate(x),
-        Insn::AddSubRegister(x) => flat_sum(x),
-        Insn::LogicalRegister(x) => flat_logical(x),
-        Insn::Branch(x) => flat_branch(x),
-        Insn::Multiply(x) => flat_multiply(x),
-        Insn::LoadStore(x) => flat_access(x),
-        Insn::AddSubExtended(_) => Flat::Scalar,
-        Insn::LogicalImmediate(_) => Flat::Scalar,
-        Insn::MoveWide(_) => Flat::Scalar,
-        Insn::BitfieldMove(_) => Flat::Scalar,
-        Insn::Extract(_) => Flat::Scalar,
-        Insn::PcRelative(_) => Flat::Scalar,
-        Insn::BranchRegister(_) => Flat::Scalar,
-        Insn::AddSubCarry(_) => Flat::Scalar,
-        Insn::ConditionalSelect(_) => Flat::Scalar,
-        Insn::ConditionalCompare(_) => Flat::Scalar,
-        Insn::OneSource(_) => Flat::Scalar,
-        Insn::TwoSource(_) => Flat::Scalar,
-        _ => Flat::Other,
-    }
-}
+/// What a flat instruction says of the instruction that it is of: its fields are in their ranges, and it is
+/// what `exec_at` executes where that gives a distance; else nothing has changed.
+#[inline(always)]
+pub fn flat_means()
+    ensures row { (flat : Flat) (it : Insn) → IsFlatOf flat it → (IsTrue (is_scalar it) → IsInRow it)
+        → IsFlatInRow flat }
+    ensures steps { (flat : Flat) (it : Insn) (base at next : ℕ) (old new : Scalars) → IsFlatOf flat it
+        → StepsFlat flat base at (Some next) old new → StepsTo it base at (Some next) old new }
+    ensures rests { (flat : Flat) (base at : ℕ) (old new : Scalars)
+        → StepsFlat flat base at None old new → new ≡ old }
+{}

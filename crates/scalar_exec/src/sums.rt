@@ -112,6 +112,7 @@ pub fn exec_add_sub_register(s: &mut Scalars, x: &AddSubRegister)
 }
 
 /// Adds or subtracts an extended register.
+#[inline(always)]
 #[tactic(auto, unfolding(crate::specs::Sums::add_sub_extended))]
 pub fn exec_add_sub_extended(s: &mut Scalars, x: &AddSubExtended)
     requires { IsAddSubExtended x.now }

@@ -1,7 +1,8 @@
 -- A thread that goes on several turns from a place of its recorded run, each of which counts an instruction.
-use Rattle.std.proofs.Common.{◌≡◌, ◌≢◌, ℕ, zero, suc, ◌+◌, ◌-◌, ◌<◌, ◌≤◌, ◌==◌, Bool, true, false, List, drop, inl, inr, eq-eqb}
-use Rattle.std.proofs.Common.{Option, Some, None, refl, ap, sym, ◌∙◌, subst, arith}
-use Rattle.std.specs.Prelude.{is_some}
+use Rattle.std.proofs.Common.{◌≡◌, ◌≢◌, ℕ, zero, suc, ◌+◌, ◌-◌, ◌<◌, ◌≤◌, ◌==◌, false, List, drop, inl, inr, eq-eqb}
+use Rattle.std.proofs.Common.{Option, Some, None, ap, sym, ◌∙◌, subst, arith}
+use Rattle.std.proofs.lemmas.Bool.{both_ways}
+use Rattle.plain_lemmas.proofs.Numbers.{cases_lt_eq_gt}
 use Rattle.sm_types.specs.declared.config.Config.{Config}
 use Rattle.sm_types.specs.declared.shared_op.Event.{Event}
 use Rattle.sm_types.specs.declared.stop.Stop.{Stop}
@@ -17,7 +18,6 @@ use Rattle.kernel_contexts.specs.Turn.{turn_of}
 use Rattle.kernel_contexts.proofs.Fetched.{fetched, unhalted}
 use Rattle.kernel_contexts.proofs.Several.{halts_let_go}
 use Rattle.lone_runner.specs.Parting.{state_at}
-use Rattle.lone_runner.proofs.Places.{compared}
 use Rattle.lone_runner.proofs.Partings.{count_later}
 use Rattle.lone_runner.proofs.Several.{gone_at}
 use Rattle.lone_runner.proofs.Several.{counts_by as counts_few}
@@ -29,9 +29,6 @@ use Rattle.sme_debugger.specs.Replayed.{recording_in, NoneFrom}
 use Rattle.sme_debugger.specs.declared.replay.Replay.{Replay}
 use Rattle.sme_debugger.proofs.Standings.{place_shows, stands_at}
 use Rattle.sme_debugger.proofs.Recorded.{one_state}
-
-apart : (b : Bool) → b ≡ true → b ≡ false → ⊥
-apart b e f = let no : true ≡ false = sym e ∙ f in cc
 
 module _ (r : Recording) (count used : ℕ) (s : State) (p : IsPlace r count s used) (address : ℕ) where
   abbrev left : List Event
@@ -54,14 +51,15 @@ module _ (r : Recording) (count used : ℕ) (s : State) (p : IsPlace r count s u
 
   few : (n : ℕ) → counts_by r (s.turns + n) ≤ count + n
   few n =
-      let most = counts_few r.program r.config r.thread r.journal 0 s.turns n in
+      let most : counts_by r (s.turns + n) ≤ counts_by r s.turns + n = counts_few r.program r.config r.thread r.journal 0 s.turns n in
       let at = here in omega (arith, most, at)
 
   -- each of them counts an instruction, so that no turn before the last comes to its count
   first : (n m : ℕ) → m < s.turns + n → counts_by r m ≢ count + n
-  first n m l = elim (compared m s.turns) [
+  first n m l = elim (cases_lt_eq_gt m s.turns) [
     | inl less ↦
-        let grown = count_later r.program r.config r.thread r.journal 0 m s.turns (omega (arith, less)) in
+        let grown : counts_by r m ≤ counts_by r s.turns =
+        count_later r.program r.config r.thread r.journal 0 m s.turns (omega (arith, less)) in
         let at = here in
         let other = p.first m less in λ same. omega (arith, grown, at, other, same)
     | inr (inl is) ↦
@@ -86,22 +84,23 @@ module _ (r : Recording) (count used : ℕ) (s : State) (p : IsPlace r count s u
   -- where the last but one is
   counts_before : (n : ℕ) (t : State) (goes : GoesTo (suc n) t) → t.count ≡ count + suc n → goes.0.count ≡ count + n
   counts_before n t goes counts =
-      let one = counts_few r.program r.config r.thread r.journal 0 (s.turns + n) 1 in
+      let one : counts_by r (s.turns + n + 1) ≤ counts_by r (s.turns + n) + 1 =
+      counts_few r.program r.config r.thread r.journal 0 (s.turns + n) 1 in
       let before = counts_at n goes.0 goes.1 in
       let next : s.turns + n + 1 ≡ s.turns + suc n = omega arith in
-      let after = ap (counts_by r) next ∙ counts_at (suc n) t goes in
+      let after : counts_by r (s.turns + n + 1) ≡ t.count = ap (counts_by r) next ∙ counts_at (suc n) t goes in
       let most = few n in omega (arith, one, before, after, most, counts)
 
   away : (u t : State) → turn_of r.config r.thread used u ≡ Goes t → t.count ≡ suc u.count
       → halts_before (is_at address) u ≡ false → u.core.scalars.pc ≢ address
   away u t turn one h = λ there.
       let word = fetched r.config r.thread used u t turn one in
-      apart (u.core.scalars.pc == address) (eq-eqb u.core.scalars.pc address there) (unhalted (is_at address) u word.0 word.1 h)
+      both_ways (u.core.scalars.pc == address) (unhalted (is_at address) u word.0 word.1 h) (eq-eqb u.core.scalars.pc address there)
 
   pub none_on_the_way : (n : ℕ) (t : State) → GoesTo n t → t.count ≡ count + n
       → (m : ℕ) (u : State) → count ≤ m → m < count + n → Shows r m u → u.core.scalars.pc ≢ address
   none_on_the_way zero t goes counts m u low high shows = absurd (omega (arith, low, high))
-  none_on_the_way (suc n) t goes counts m u low high shows = elim (compared m (count + n)) [
+  none_on_the_way (suc n) t goes counts m u low high shows = elim (cases_lt_eq_gt m (count + n)) [
     | inl less ↦ none_on_the_way n goes.0 goes.1 (counts_before n t goes counts) m u low less shows
     | inr (inl same) ↦
         let here_shown : Shows r (count + n) u = subst (λ k. Shows r k u) same shows in
@@ -113,10 +112,6 @@ module _ (r : Recording) (count used : ℕ) (s : State) (p : IsPlace r count s u
   ]
 
 -- ---- of a replay
-
-pub none_where : (o : Option Stop) → is_some o ≡ false → o ≡ None
-none_where None e = refl
-none_where (Some stop) e = cc
 
 module _ (s : Replay) (count address most : ℕ) (new : Loose) (end : Made) (shown : s.shown ≡ Some count) (none : s.stop ≡ None)
     (e : AdvancesSeveralLoose (is_at address) most s.loose new end) where
@@ -164,7 +159,7 @@ none_yet r count address = λ n s low high. absurd (omega (arith, low, high))
 -- so there is none between
 pub none_so_far : (r : Recording) (above count below address : ℕ) → NoneBetween r above count address → NoneFrom r count below address
     → NoneBetween r above below address
-none_so_far r above count below address before ahead = λ n s over under shows. elim (compared n count) [
+none_so_far r above count below address before ahead = λ n s over under shows. elim (cases_lt_eq_gt n count) [
   | inl less ↦ before n s over less shows
   | inr (inl same) ↦ ahead n s (omega (arith, same)) under shows
   | inr (inr more) ↦ ahead n s (omega (arith, more)) under shows

@@ -88,7 +88,8 @@ turns-preserved g c =
     let given = gives_more g.P.Port.gives g.P.Port.name g.P.Port.tells _ _ _ _ _ _ (thread_of first) (thread_of old) _ (made_by old new) _
     (is_answers was (guest_on bank old) (guest_on after new) c.turns.turns (made_by old new) h.run h.runs later)
     h.same.thread h.gives e.gives in
-    let gone : IsGoneBy (not (owns after (thread_of new))) (guest_on after new) c.advance_several_on-turns.result.count (guest_on end last) =
+    let gone : IsGoneBy (not (owns after (thread_of new))) (guest_on after new) c.advance_several_on-turns.result.count
+    (guest_on end last) =
     record {
       program = f.same.image;
       config = f.same.config;

@@ -22,7 +22,8 @@ returns-clause-turns g c =
     let halts = g.H.Halts.halts c.args.halts.now in
     subst (λ (u : State). GoesApart halts c.args.apart t.config t.number (guest_events t) step.result.count s u)
     (sym (ap (with_vectors v) c.count_turns.ensures.state))
-    (executed_goes t.config t.number (guest_events t) t.watch s t.watched halts c.args.apart step.result.count (core_of step.new.self v)
+    (executed_goes t.config t.number (guest_events t) t.watch s t.watched halts c.args.apart step.result.count
+    (core_of step.new.self v)
     (up_to c.args.most t.watch t.count step.result.count c.min-few.result t.watched.within c.min-few.ensures step.ensures.few)
     (executed_as halts c.args.apart bank.vectors.vl t.config.vl step.result.count s.core (core_of step.new.self v) (sym c.requires.lengths.vl)
     step.ensures.executed))

@@ -1,11 +1,6 @@
 use Rattle.machine_step.proofs.Known.{scalar_row}
-use Rattle.machine_step.proofs.Flats.{flat_row, scalar_group, scalar_by_flat}
+use Rattle.machine_step.proofs.Flats.{scalar_group, scalar_by_flat}
 use Rattle.machine_step.proofs.decoder.Decoded.compute.Goals as goal
-
-pub exec_flat-requires : goal.exec_flat-requires
-exec_flat-requires c =
-    let k = c.args.self.now in
-    flat_row k.flat k.word k.insn c.requires k.known k.flattened
 
 pub exec_general-requires-clause-ranges : goal.exec_general-requires-clause-ranges
 exec_general-requires-clause-ranges c =

@@ -1,5 +1,6 @@
 use Rattle.std.proofs.Common.{ap, ◌∙◌, arith, Some}
 use Rattle.std.specs.Prelude.{◌&&◌, Bool}
+use Rattle.plain_lemmas.proofs.Tests.{and-false}
 use Rattle.mem_access.specs.Bank.{bank_state}
 use Rattle.mem_access.specs.Transfer.{writes_of}
 use Rattle.machine_step.specs.ProcessorState.{vector_bytes}
@@ -7,7 +8,6 @@ use Rattle.machine_step.specs.Effect.{effect_of}
 use Rattle.machine_step.specs.Execution.{effect_of_insn}
 use Rattle.machine_step.specs.Machine.{core_of}
 use Rattle.machine_step.proofs.Answers.{effect_of_word, needs_of_word, unneeded}
-use Rattle.machine_step.proofs.Computing.{and_false}
 use Rattle.machine_step.proofs.Flats.{access_group, access_apart}
 use Rattle.machine_step.proofs.Known.{scalar_row}
 use Rattle.machine_step.proofs.Owned.{attempt_keeps}
@@ -31,7 +31,7 @@ pub returns-clause-kept : goal.returns-clause-kept
 returns-clause-kept c apart bank =
     let s = core_of c.args.self.now bank in
     ap (λ (b : Bool). apart && b) (needs_of_word s c.args.word (Some c.args.insn.now) c.requires.aligned c.requires.fetched c.requires.means
-    ∙ unneeded c.args.insn.now s (access_apart c.args.insn.now s.streaming c.requires.access)) ∙ and_false apart
+    ∙ unneeded c.args.insn.now s (access_apart c.args.insn.now s.streaming c.requires.access)) ∙ and-false apart
 
 pub returns-clause-owned : goal.returns-clause-owned
 returns-clause-owned c =

@@ -8,7 +8,8 @@ use Rattle.machine_step.proofs.machine.Machine.make_steps.Given as goal
 
 abbrev pub invariant-steps : goal.invariant-steps
 invariant-steps g l = record {
-  executed : AreExecuted (g.H.Halts.halts l.halts) l.apart (vector_bytes l.initial.bank.vectors.vl) l.done (core_of l.initial.self (bank_state l.initial.bank))
+  executed : AreExecuted (g.H.Halts.halts l.halts) l.apart (vector_bytes l.initial.bank.vectors.vl) l.done
+      (core_of l.initial.self (bank_state l.initial.bank))
       (core_of l.self (bank_state l.bank));
   few : l.done ≤ l.most;
   owned : KeepsOwned l.initial.self.pages l.self.pages;

@@ -13,13 +13,13 @@ use Rattle.machine_step.proofs.Owned.{attempt_keeps}
 use Rattle.machine_step.specs.Owned.{writes_on}
 use Rattle.machine_step.proofs.machine.Machine.step_known.Goals as goal
 
-pub returns-in_default-clause-effect : goal.returns-in_default-clause-effect
-returns-in_default-clause-effect c =
-    let word = c.word-in_default.result in
+pub returns-clause-effect : goal.returns-clause-effect
+returns-clause-effect c =
+    let word = c.word.result in
     let it = c.insn-insn.result.now in
     let fetched : word_at c.args.self.now.pages.memory c.args.self.now.scalars.pc ≡ Some word =
-    c.requires.fetched ∙ ap Some (sym c.word-in_default.ensures) in
-    let means : instruction_of word ≡ Some it = ap instruction_of c.word-in_default.ensures ∙ c.args.known.now.known
+    c.requires.fetched ∙ ap Some (sym c.word.ensures) in
+    let means : instruction_of word ≡ Some it = ap instruction_of c.word.ensures ∙ c.args.known.now.known
     ∙ ap Some (sym c.insn-insn.ensures) in
     attempted_at effect_of (effect_of_insn word it) c.args.self.now c.args.bank.now c.attempt.new.self
     c.attempt.new.bank c.attempt.result
@@ -27,25 +27,19 @@ returns-in_default-clause-effect c =
     (Some it) c.requires.aligned fetched means)
     c.attempt.ensures.effect
 
-pub returns-in_default-clause-kept : goal.returns-in_default-clause-kept
-returns-in_default-clause-kept c done =
+pub returns-clause-kept : goal.returns-clause-kept
+returns-clause-kept c done =
     let s = core_of c.args.self.now (bank_state c.args.bank.now) in
-    let word = c.word-in_default.result in
+    let word = c.word.result in
     let it = c.insn-insn.result.now in
     let fetched : word_at c.args.self.now.pages.memory c.args.self.now.scalars.pc ≡ Some word =
-    c.requires.fetched ∙ ap Some (sym c.word-in_default.ensures) in
-    let means : instruction_of word ≡ Some it = ap instruction_of c.word-in_default.ensures ∙ c.args.known.now.known
+    c.requires.fetched ∙ ap Some (sym c.word.ensures) in
+    let means : instruction_of word ≡ Some it = ap instruction_of c.word.ensures ∙ c.args.known.now.known
     ∙ ap Some (sym c.insn-insn.ensures) in
     ap (λ b. c.args.apart && b) (needs_of_word s word (Some it) c.requires.aligned fetched means)
     ∙ sym (c.wants.ensures (bank_state c.args.bank.now)) ∙ c.if-wants.false
 
-pub returns-in_default-clause-owned : goal.returns-in_default-clause-owned
-returns-in_default-clause-owned c =
+pub returns-clause-owned : goal.returns-clause-owned
+returns-clause-owned c =
     attempt_keeps (writes_on c.args.self.now c.args.bank.now c.insn-insn.result.now) c.args.self.now.pages c.attempt.new.self.pages
     c.attempt.result c.attempt.ensures.owned
-
-pub returns-in-StoreDoubleword-clause-effect : goal.returns-in-StoreDoubleword-clause-effect
-returns-in-StoreDoubleword-clause-effect c = c.access_known.ensures.effect c.args.bank.now
-
-pub returns-in-StoreNext-clause-effect : goal.returns-in-StoreNext-clause-effect
-returns-in-StoreNext-clause-effect c = c.access_known-in-StoreNext.ensures.effect c.args.bank.now

@@ -1,19 +1,20 @@
 use Rattle.std.proofs.Common.{◌≡◌, ◌∙◌, sym, arith, None}
+use Rattle.plain_lemmas.proofs.Options.{is_some-false}
 use Rattle.sme_debugger.specs.Replayed.{recording_in}
-use Rattle.sme_debugger.proofs.Ahead.{none_where, shows_ahead, none_ahead, stands_ahead, none_yet}
+use Rattle.sme_debugger.proofs.Ahead.{shows_ahead, none_ahead, stands_ahead, none_yet}
 use Rattle.sme_debugger.proofs.replay.Replay.run_towards.Goals as goal
 
 pub advance_several-made-requires : goal.advance_several-made-requires
 advance_several-made-requires c =
     let s = c.args.self.now in
-    let none = none_where s.stop (sym c.is_some.ensures ∙ c.if-is_some.false) in
+    let none = is_some-false s.stop (sym c.is_some.ensures ∙ c.if-is_some.false) in
     (s.shows c.args.count c.requires.place).stop_is ∙ none
 
 pub invariant_of-self : goal.invariant_of-self
 invariant_of-self c =
     let s = c.args.self.now in
     let e = c.advance_several-made.ensures in
-    let none = none_where s.stop (sym c.is_some.ensures ∙ c.if-is_some.false) in
+    let none = is_some-false s.stop (sym c.is_some.ensures ∙ c.if-is_some.false) in
     record {
       number = s.number;
       few = s.few;
@@ -33,14 +34,14 @@ invariant_of-self c =
 pub returns-clause-none : goal.returns-clause-none
 returns-clause-none c =
     let s = c.args.self.now in
-    let none = none_where s.stop (sym c.is_some.ensures ∙ c.if-is_some.false) in
+    let none = is_some-false s.stop (sym c.is_some.ensures ∙ c.if-is_some.false) in
     none_ahead s c.args.count c.args.address _ c.advance_several-made.new.self c.advance_several-made.result c.requires.place none
     c.advance_several-made.ensures
 
 pub returns-clause-shown : goal.returns-clause-shown
 returns-clause-shown c =
     let s = c.args.self.now in
-    let none = none_where s.stop (sym c.is_some.ensures ∙ c.if-is_some.false) in
+    let none = is_some-false s.stop (sym c.is_some.ensures ∙ c.if-is_some.false) in
     shows_ahead s c.args.count c.args.address _ c.advance_several-made.new.self c.advance_several-made.result c.requires.place none
     c.advance_several-made.ensures
 

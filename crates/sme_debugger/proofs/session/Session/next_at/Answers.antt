@@ -3,7 +3,7 @@ use Rattle.kernel_contexts.specs.Loose.{loose_state}
 use Rattle.machine_step.specs.declared.machine.Machine.{Machine}
 use Rattle.sme_debugger.specs.Recording.{Recording, Shows}
 use Rattle.sme_debugger.specs.Answers.{NoneBetween}
-use Rattle.sme_debugger.specs.Replayed.{recording_in, NoneFrom}
+use Rattle.sme_debugger.specs.Replayed.{NoneFrom}
 use Rattle.sme_debugger.specs.Session.{recording_of, place_of}
 use Rattle.sme_debugger.proofs.Ahead.{none_so_far}
 use Rattle.sme_debugger.proofs.Recorded.{none_at_first, none_more}
