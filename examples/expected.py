@@ -480,8 +480,8 @@ def block(thread, stop, number=0):
     return lines + [f"journal {len(thread.journal)}", *thread.journal, "end-thread"]
 
 
-def report(file, vl=128, svl=256, budget=10_000_000, slice=1000, kernel=KERNEL):
-    thread, stop = Thread(file, budget, vl, svl, slice, kernel=kernel), None
+def report(file, vl=128, svl=256, budget=10_000_000, slice=1000, kernel=KERNEL, thread=Thread):
+    thread, stop = thread(file, budget, vl, svl, slice, kernel=kernel), None
     while stop is None:
         stop = thread.turn()
     lines = [f"smemu-report {kernel}", f"options vl={vl} svl={svl} slice={slice} budget={budget} threads=1",

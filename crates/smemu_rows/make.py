@@ -6,7 +6,7 @@
 The reports come from examples/expected.py and the interpreters beside it, and those of several threads from world.py, which share nothing
 with the emulator; the refusals, and the listings but one, are written out here. The files real-*.elf come from real/make.sh, which runs an assembler and two linkers, and
 those of real/compiled from real/make_compiled.sh, which runs two compilers. The files of vectors and their answers come from other tools, and from word_steps.py,
-lane_steps.py and vector_lines.py, which are run before this. What `run` and `sim` are to write is of version 2; for `replay` and `debug`
+lane_steps.py, vector_edges.py and vector_lines.py, which are run before this. What `run` and `sim` are to write is of version 2; for `replay` and `debug`
 there are reports of both versions.
 
 Where the gate runs smemu_rows it has data/ alone, and takes no links there. So a source of examples/ or real/ that is a row stands there too,
@@ -33,6 +33,7 @@ from expected_debug import listed
 from frames import frames
 from instructions import EXIT, SVC, add, branch, call, movz, subs
 from lazy import lazy_rows
+from loop_rows import KnowsAllWords, loop_rows
 from marked_calls import abi_check
 from nested import ADDS, masked_and_nested, masks
 from nested_replays import changed_programs, replays_of_nested, version_1_replays
@@ -699,6 +700,7 @@ def main():
     programs = list(assemblies())
     rows += [*signals(2), *masked_and_nested(), *runs(programs), *compiled(), *vector_accesses(), *((name, file, {}) for name, file in matrix_stops())]
     rows = [(f"{name}.elf", 0, file, report(file, **options), {"run": "", **options}) for name, file, options in rows]
+    rows += [(f"loop-{name}.elf", 0, file, report(file, thread=KnowsAllWords, **options), {"run": "", **options}) for name, file, options in loop_rows()]
     files = {name.removesuffix(".elf"): file for name, _, file, _, _ in rows}
     written = {name.removesuffix(".elf"): text.encode() for name, _, _, text, _ in rows}
     rows += [(f"{name}.elf", 6, file, text, {"run": ""}) for name, file, text in refusals()]

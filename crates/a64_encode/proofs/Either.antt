@@ -1,7 +1,8 @@
 -- What a word means by both tables, and which of them gives it.
-use Rattle.std.proofs.Common.{◌≡◌, ◌↔◌, ◌⊎◌, inl, inr, ℕ, ◌<◌, ◌^◌, true, false, Option, Some, None, refl, ap, ◌∙◌, ℤ}
+use Rattle.std.proofs.Common.{◌≡◌, ◌↔◌, inl, inr, ℕ, ◌<◌, ◌^◌, true, false, Option, Some, None, refl, ap, ◌∙◌, ℤ}
 use Rattle.std.specs.Option.{option_or}
 use Rattle.std.proofs.lemmas.Bool.{both_ways}
+use Rattle.plain_lemmas.proofs.Options.{either_some}
 use Rattle.sm_types.specs.declared.insn.Insn.{Insn}
 use Rattle.insn_forms.specs.declared.field.Field.{Field}
 use Rattle.insn_forms.specs.Tables.{Table, Means}
@@ -57,20 +58,16 @@ meaning_scalar word it e = meaning_holds scalar word (λ i. is_vector_group i �
 pub never_both : (word other : ℕ) (it : Insn) → Means scalar word it → Means vector other it → ⊥
 never_both word other it m n = both_ways (is_vector_group it) (means_scalar word it m) (means_vector other it n)
 
-by_either : (first second : Option Insn) (it : Insn) → option_or first second ≡ Some it → (first ≡ Some it) ⊎ (second ≡ Some it)
-by_either None second it e = inr e
-by_either (Some other) second it e = inl e
-
 pub by_scalar : (word : ℕ) (it : Insn) → instruction_of word ≡ Some it → is_vector_group it ≡ false → meaning_of word ≡ Some it
 unfolding instruction_of
-by_scalar word it e g = elim (by_either (meaning_of word) (vector_meaning_of word) it e) [
+by_scalar word it e g = elim (either_some (meaning_of word) (vector_meaning_of word) it e) [
   | inl h ↦ h
   | inr h ↦ absurd (both_ways (is_vector_group it) g (meaning_vector word it h))
 ]
 
 pub by_vector : (word : ℕ) (it : Insn) → instruction_of word ≡ Some it → is_vector_group it ≡ true → vector_meaning_of word ≡ Some it
 unfolding instruction_of
-by_vector word it e g = elim (by_either (meaning_of word) (vector_meaning_of word) it e) [
+by_vector word it e g = elim (either_some (meaning_of word) (vector_meaning_of word) it e) [
   | inl h ↦ absurd (both_ways (is_vector_group it) (meaning_scalar word it h) g)
   | inr h ↦ h
 ]
@@ -99,7 +96,7 @@ scalar_alone word it lt e = go (meaning_of word) refl
 pub either : (word : ℕ) (it : Insn) → word < 2 ^ 32 → (instruction_of word ≡ Some it) ↔ MeansEither word it
 unfolding instruction_of
 either word it lt = (
-  λ e. elim (by_either (meaning_of word) (vector_meaning_of word) it e) [
+  λ e. elim (either_some (meaning_of word) (vector_meaning_of word) it e) [
     | inl h ↦ inl ((scalar_meaning word it lt).0 h)
     | inr h ↦ inr ((vector_meaning word it lt).0 h)
   ],

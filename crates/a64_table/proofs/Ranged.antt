@@ -1,7 +1,8 @@
 -- The fields of an instruction that a row gives are in their ranges.
 use Rattle.std.proofs.Common.{◌≡◌, ◌≢◌, ℕ, ◌%◌, ◌<◌, ◌^◌, ◌==◌, Bool, true, false, not, ◌&&◌, ◌||◌, nat_lt, refl, sym, ap, ap₂, ◌∙◌, subst}
 use Rattle.std.proofs.Common.{arith, eqb-true, eq-eqb}
-use Rattle.std.proofs.lemmas.Bool.{ltb-true, and_parts, both_ways}
+use Rattle.std.proofs.lemmas.Bool.{ltb-true, and_parts}
+use Rattle.plain_lemmas.proofs.Tests.{implied, ne_from_not_eqb}
 use Rattle.bit_ops.specs.Masks.{are_mask_fields}
 use Rattle.insn_forms.specs.declared.field.Field.{Field}
 use Rattle.insn_forms.specs.Fields.{field_in}
@@ -43,29 +44,22 @@ unfolding is_below_width
 below_width true n f = cut_below n 64 (ltb-true _ _ f)
 below_width false n f = cut_below n 32 (ltb-true _ _ f)
 
-unlike : (p q : ℕ) → not (p == q) ≡ true → p ≢ q
-unlike p q f e = both_ways (not (p == q)) (ap not (eq-eqb p q e)) f
-
-given : (p q : Bool) → (not p || q) ≡ true → p ≡ true → q ≡ true
-given true q f e = f
-given false q f e = cc
-
 -- a number of two bits that is not 3 is no rotation
 no_rotation : (n : ℕ) → n < 4 → not (n == 3) ≡ true → shift_of n ≢ Ror
-no_rotation n small f e = unlike n 3 f (sym (shift_back n small) ∙ ap shift_number e)
+no_rotation n small f e = ne_from_not_eqb n 3 f (sym (shift_back n small) ∙ ap shift_number e)
 
 -- an extension of an address is from a word or a doubleword
 address_extend : (n : ℕ) → n < 8 → is_address_option n ≡ true → is_address_extend (extend_of n) ≡ true
 unfolding is_address_option extend_of all_below
 address_extend n small f =
-    given (is_address_option n) _ (below (λ k. not (is_address_option k) || is_address_extend (extend_of k)) 8 n refl small) f
+    implied (is_address_option n) _ (below (λ k. not (is_address_option k) || is_address_extend (extend_of k)) 8 n refl small) f
 
 -- a signed load is of less bits than it gives
 load_sized : (size opc : ℕ) → size < 4 → opc < 4 → has_load size opc ≡ true → has_size (load_store_op_of opc) (access_size_of size) ≡ true
 unfolding has_load load_store_op_of access_size_of all_below
 load_sized size opc s o f =
     let all = below (λ m. all_below (λ k. not (has_load m k) || has_size (load_store_op_of k) (access_size_of m)) 4) 4 size refl s in
-    given (has_load size opc) _ (below (λ k. not (has_load size k) || has_size (load_store_op_of k) (access_size_of size)) 4 opc all o) f
+    implied (has_load size opc) _ (below (λ k. not (has_load size k) || has_size (load_store_op_of k) (access_size_of size)) 4 opc all o) f
 
 or_else : (p q : Bool) → (p || q) ≡ true → (p ≡ true → ⊥) → q ≡ true
 or_else true q f h = absurd (h refl)
@@ -81,19 +75,21 @@ module _ (w : ℕ) where
   apart f e =
       let rn = uncut RN w (omega arith) in
       let rt = uncut RT w (omega arith) in
-      rn ∙ eqb-true _ _ (given (field_in RN w == field_in RT w) _ f (eq-eqb _ _ (sym rn ∙ e ∙ rt)))
+      rn ∙ eqb-true _ _ (implied (field_in RN w == field_in RT w) _ f (eq-eqb _ _ (sym rn ∙ e ∙ rt)))
 
   two : (op : PairOp) → are_two op (field_in RT w) (field_in RT2 w) ≡ true → op ≡ Ldp → register RT ≢ register RT2
   unfolding are_two
-  two Ldp f e g = unlike _ _ f (sym (uncut RT w (omega arith)) ∙ g ∙ uncut RT2 w (omega arith))
+  two Ldp f e g = ne_from_not_eqb _ _ f (sym (uncut RT w (omega arith)) ∙ g ∙ uncut RT2 w (omega arith))
   two Stp f e g = cc
 
   written_apart : (field_in RN w == 31 || (not (field_in RN w == field_in RT w) && not (field_in RN w == field_in RT2 w))) ≡ true
       → register RN ≢ 31 → (register RN ≢ register RT) × (register RN ≢ register RT2)
   written_apart f n =
       let rn = uncut RN w (omega arith) in
-      let both = and_parts _ _ (or_else _ _ f (λ e. n (rn ∙ eqb-true _ _ e))) in
-      (λ e. unlike _ _ both.0 (sym rn ∙ e ∙ uncut RT w (omega arith)), λ e. unlike _ _ both.1 (sym rn ∙ e ∙ uncut RT2 w (omega arith)))
+      let both = and_parts _ _ (or_else _ _ f (λ e. n (rn ∙ eqb-true _ _ e))) in (
+        λ e. ne_from_not_eqb _ _ both.0 (sym rn ∙ e ∙ uncut RT w (omega arith)),
+        λ e. ne_from_not_eqb _ _ both.1 (sym rn ∙ e ∙ uncut RT2 w (omega arith)),
+      )
 
   pair_apart : (index : PairIndex) → is_pair_apart index (field_in RN w) (field_in RT w) (field_in RT2 w) ≡ true → index ≢ Offset
       → register RN ≢ 31 → (register RN ≢ register RT) × (register RN ≢ register RT2)

@@ -1,15 +1,14 @@
 -- A thread that is followed over its run, and what is told of it.
 use Rattle.std.proofs.Common.{inl, inr, ◌≡◌, ℕ, suc, ◌<◌, ◌≤◌, ◌^◌, List, [], ◌++◌, length, ap, sym, ◌∙◌}
-use Rattle.std.proofs.Common.{arith, subst, Bool, true, false, Option, Some, None}
+use Rattle.std.proofs.Common.{arith, subst, Option, Some, None}
 use Rattle.std.specs.Prelude.{nat_lt, cond, IfSome, IfNone}
-use Rattle.std.proofs.lemmas.Bool.{cases_Bool}
+use Rattle.std.proofs.lemmas.Bool.{cases_Bool, both_ways}
 use Rattle.std.proofs.lemmas.Bool.Decides.{nat_tests}
 use Rattle.sm_types.specs.declared.config.Config.{Config}
 use Rattle.sm_types.specs.declared.shared_op.Event.{Event}
 use Rattle.sm_types.specs.declared.stop.Stop.{Stop}
 use Rattle.shared_region.specs.Ports.{ReplayEvents}
 use Rattle.paged_memory.specs.Image.{Program}
-use Rattle.paged_memory.specs.Memory.{AddressSpace}
 use Rattle.sve_vectors.specs.Lengths.{vector_bytes}
 use Rattle.kernel_contexts.specs.State.{State, start_state}
 use Rattle.kernel_contexts.specs.HandlerRun.{IsPlain}
@@ -25,7 +24,6 @@ use Rattle.lone_runner.proofs.Ways.{way_starts, way_on, next_at, up_to, IsStoppe
 use Rattle.abi_checker.specs.Marks.{is_call_word}
 use Rattle.abi_checker.specs.Faults.{HasFault}
 use Rattle.abi_checker.specs.Checked.{IsChecked, IsTold, states_of}
-use Rattle.abi_checker.specs.Straight.{AreBlocks, KeepsCode}
 use Rattle.abi_checker.specs.Whole.{IsWholeWith, IsWholeAt}
 use Rattle.abi_checker.specs.Watching.{IsWatched, IsNextCall, IsNoCall, IsPast}
 use Rattle.abi_checker.specs.Following.{IsFollowed, IsUnderWay, IsSomewhereWith}
@@ -34,7 +32,6 @@ use Rattle.abi_checker.specs.declared.abi.AbiKind.{AbiKind}
 use Rattle.abi_checker.specs.declared.abi.AbiKind.TheVariants.{NotDormant, NotLawful, TooDeep}
 use Rattle.abi_checker.specs.declared.watch.Watch.{Watch}
 use Rattle.abi_checker.proofs.Deliveries.{plain_first, plain_next}
-use Rattle.abi_checker.proofs.Keeps.{run_keeps}
 use Rattle.abi_checker.proofs.WholeStates.{whole_first, whole_at}
 
 -- ---- the start
@@ -45,8 +42,8 @@ none_first run NotDormant f = f.marked
 none_first run TooDeep f = f.marked
 
 pub watched_first : (run : ℕ → State) (watch : Watch) → watch.calls.items ≡ [] → watch.returned ≡ 0
-    → ((m : AddressSpace) → AreBlocks watch.near m watch.blocks.known) → IsWatched run 0 watch
-watched_first run watch e z known =
+    → IsWatched run 0 watch
+watched_first run watch e z =
     let short : length watch.calls.items ≡ 0 = ap (λ l. length l) e in
     record {
       none = λ m kind within.
@@ -57,20 +54,16 @@ watched_first run watch e z known =
       few = omega (arith, short);
       counted = omega (arith, short, z);
       near = λ k d less. absurd (omega (arith, less, short));
-      known = known (run 0).core.memory;
     }
 
 -- ---- the call that stood at PC
-
-differ : (b : Bool) → b ≡ true → b ≡ false → ⊥
-differ b e f = let no : true ≡ false = sym e ∙ f in cc
 
 pub past_counted : (s t : State) (call : Option ℕ) → IfSome call (λ past. IsNextCall s past) → IfNone call (IsNoCall s)
     → t.count ≡ suc s.count → IsPast s t call
 past_counted s t (Some past) some none counted =
     (record { word = some.word; there = some.there; calls = some.calls; counted = counted }, some.place)
 past_counted s t None some none counted = λ p h.
-    let call = h.call in differ (is_call_word call.word) call.calls (none call.word call.there)
+    let call = h.call in both_ways (is_call_word call.word) (none call.word call.there) call.calls
 
 pub past_means : (s t : State) (call past : Option ℕ) → IfSome call (λ past. IsNextCall s past) → IfNone call (IsNoCall s)
     → IsCounted s t → past ≡ cond (nat_lt s.count t.count) call None → IsPast s t past
@@ -160,19 +153,16 @@ module _ (program : Program) (config : Config) (thread : ℕ) (journal : List Ev
       (told : Option Abi) → next_place old before ≡ place_of new after stop
       → IfSome call (λ past. IsNextCall (state_of old) past) → IfNone call (IsNoCall (state_of old))
       → first ≡ (state_of old).count → now ≡ (state_of new).count → past ≡ cond (nat_lt first now) call None
-      → config_of new ≡ config_of old → IsPlain (config_of old) (state_of old)
-      → IsWholeWith (vector_bytes (config_of new).svl) (state_of new).core
+      → config_of new ≡ config_of old → IsWholeWith (vector_bytes (config_of new).svl) (state_of new).core
       → ((run : ℕ → State) (n : ℕ) → IsUnderWay run n watch found → run (suc n) ≡ state_of new
       → IsPast (run n) (run (suc n)) past → (run n).count ≤ (run (suc n)).count → IsWholeAt run (suc n)
-      → KeepsCode (run n).core.memory (run (suc n)).core.memory → IsUnderWay run (suc n) later told)
+      → IsUnderWay run (suc n) later told)
       → IsUnderWay run (suc here) later told
-  told_on new after stop call past first now later told e some none f g p config_is plain whole tells =
+  told_on new after stop call past first now later told e some none f g p config_is whole tells =
       tells run here h.told (next_state new after stop e) (past_here new after stop call past first now e some none f g p)
       next_counts.least
       (whole_at program config thread journal (suc here) (state_of new) (config_of new) (next_state new after stop e)
       (config_is ∙ same) whole)
-      (run_keeps program config thread journal here (state_of old) (length (journal_of old)) before.ahead h.way.at
-      (subst (λ (k : Config). IsPlain k (state_of old)) same plain))
 
   pub checked : (new : Context) (after : ReplayEvents) (stop : Stop) (abi : Abi)
       → next_place old before ≡ place_of new after (Some stop)
@@ -194,10 +184,10 @@ module _ (program : Program) (config : Config) (thread : ℕ) (journal : List Ev
       }
 
 pub followed_first : (count : ℕ) (context : Context) (ticket : ReplayEvents) (watch : Watch) → IsAtStart context ticket
-    → watch.calls.items ≡ [] → watch.returned ≡ 0 → ((m : AddressSpace) → AreBlocks watch.near m watch.blocks.known)
+    → watch.calls.items ≡ [] → watch.returned ≡ 0
     → IsFollowed (image_of context) (config_of context) (thread_of context) ticket.ahead count context ticket watch None
 unfolding way_starts
-followed_first count context ticket watch h e z known =
+followed_first count context ticket watch h e z =
     let program = image_of context in
     let config = config_of context in
     let thread = thread_of context in
@@ -211,7 +201,7 @@ followed_first count context ticket watch h e z known =
             ap (λ n. reach program config thread ticket.ahead n) zero ∙ reach_start program config thread ticket.ahead,
           );
       plain = plain_first config (states_of program config thread ticket.ahead);
-      told = watched_first (states_of program config thread ticket.ahead) watch e z known;
+      told = watched_first (states_of program config thread ticket.ahead) watch e z;
     }
 
 -- at a stop, or none

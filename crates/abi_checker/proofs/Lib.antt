@@ -12,12 +12,7 @@ pub mod Went
 pub mod Settled
 pub mod Lawful
 pub mod Rows
-pub mod Classes
-pub mod Plain
-pub mod Planned
-pub mod Executed
-pub mod Keeps
-pub mod Staying
+pub mod Counted
 pub mod Quiet
 pub mod Deliveries
 pub mod Passed

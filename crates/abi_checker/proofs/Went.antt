@@ -1,13 +1,13 @@
 -- What the code's parts of a state come to.
 use Rattle.std.proofs.Common.{inl, inr, ◌≡◌, ℕ, suc, ◌+◌, ◌<◌, ◌≤◌, ◌++◌, List, [], ◌∷◌, length, filter, refl, ap, sym, ◌∙◌, arith, subst}
-use Rattle.std.proofs.Common.{Option, Some, None, Bool, true, false}
-use Rattle.std.proofs.Common.{get_or, Vec, Global}
+use Rattle.std.proofs.Common.{Option, Some, None, true, false}
+use Rattle.std.proofs.Common.{get_or}
 use Rattle.std.specs.Prelude.{not, Result, Ok, Err, IfOk}
 use Rattle.std.specs.List.{All, Contains}
-use Rattle.std.proofs.lemmas.List.{length_push}
+use Rattle.std.proofs.lemmas.List.{length_push, get_or_default}
 use Rattle.std.proofs.lemmas.List.Elements.{All-contains}
 use Rattle.std.proofs.lemmas.List.Filters.{length-filter_both}
-use Rattle.paged_memory.specs.Memory.{AddressSpace}
+use Rattle.std.proofs.lemmas.Bool.{both_ways}
 use Rattle.kernel_contexts.specs.State.{State}
 use Rattle.lazy_saving.specs.Dormant.{Places, IsDormantAt}
 use Rattle.za_routines.specs.Places.{places_of}
@@ -18,19 +18,17 @@ use Rattle.abi_checker.specs.Returning.{is_back, IsOfSome, IsFine, IsUnlawful}
 use Rattle.abi_checker.specs.Watching.{IsWatched, IsWalked, IsMarkedPast, IsPast, IsAdded, AfterCall, IsToldNext}
 use Rattle.abi_checker.specs.Watching.{AreNear, Settles}
 use Rattle.abi_checker.specs.Near.{is_near}
-use Rattle.abi_checker.specs.Straight.{AreBlocks}
 use Rattle.abi_checker.specs.declared.abi.AbiKind.{AbiKind}
 use Rattle.abi_checker.specs.declared.abi.AbiKind.TheVariants.{NotDormant, NotLawful, TooDeep}
 use Rattle.abi_checker.specs.declared.open_call.OpenCall.{OpenCall}
 use Rattle.abi_checker.specs.declared.watch.Watch.{Watch}
 use Rattle.abi_checker.proofs.Next.{unlawful_first, lawful_on, no_more, none_unmarked, walked_unmarked, none_added, walked_added}
 use Rattle.abi_checker.proofs.Next.{undormant_first, deep_first}
-use Rattle.abi_checker.proofs.Settled.{same_at}
 use Rattle.abi_checker.proofs.Walk.{of_list, in_list, one_place}
 use Rattle.abi_checker.proofs.WholeStates.{whole_on}
 
 module _ (run : ℕ → State) (n : ℕ) (old : Watch) (s : State) (w : IsWatched run n old) (e : run (suc n) ≡ s)
-    (grows : (run n).count ≤ (run (suc n)).count) (known : AreBlocks old.near s.core.memory old.blocks.known) where
+    (grows : (run n).count ≤ (run (suc n)).count) where
   pub went_unlawful : (new : Watch) → (call : OpenCall) × Contains old.calls.items call × IsUnlawful s call
       → IsToldNext run (suc n) (Some NotLawful) new
   went_unlawful new found =
@@ -52,9 +50,8 @@ module _ (run : ℕ → State) (n : ℕ) (old : Watch) (s : State) (w : IsWatche
     fewer = no_more run n old.calls.items old.returned w.none w.walked here mid.calls.items mid.returned gone all
 
     unmarked_watched : (new : Watch) → new.calls.items ≡ mid.calls.items → new.returned ≡ mid.returned
-        → AreNear new.near new.calls.items → AreBlocks new.near s.core.memory new.blocks.known
-        → ((p : Places) → ¬ IsMarkedAt run p (suc n)) → IsWatched run (suc n) new
-    unmarked_watched new same told near blocks unmarked =
+        → AreNear new.near new.calls.items → ((p : Places) → ¬ IsMarkedAt run p (suc n)) → IsWatched run (suc n) new
+    unmarked_watched new same told near unmarked =
         let few = w.few in
         let counted = w.counted in
         let sum = all in
@@ -72,18 +69,13 @@ module _ (run : ℕ → State) (n : ℕ) (old : Watch) (s : State) (w : IsWatche
           few = omega (arith, few, less, long);
           counted = omega (arith, counted, sum, grows, long, told);
           near = near;
-          known = subst (λ (t : State). AreBlocks new.near t.core.memory new.blocks.known) (sym e) blocks;
         }
 
     pub went_uncalled : IsPast (run n) (run (suc n)) None → IsToldNext run (suc n) None mid
-    went_uncalled apart = unmarked_watched mid refl refl settled.near (settled.known s.core.memory known) apart
+    went_uncalled apart = unmarked_watched mid refl refl settled.near apart
 
     module _ (past : ℕ) (new : Watch) (call : IsPast (run n) (run (suc n)) (Some past)) (whole : IsWholeAt run (suc n))
-        (near : AreNear new.near new.calls.items)
-        (blocks : (m : AddressSpace) → AreBlocks mid.near m mid.blocks.known → AreBlocks new.near m new.blocks.known) where
-      blocks_now : AreBlocks new.near s.core.memory new.blocks.known
-      blocks_now = blocks s.core.memory (settled.known s.core.memory known)
-
+        (near : AreNear new.near new.calls.items) where
       at_past : (p : Places) → IsMarkedPast p s past → IsMarkedAt run p (suc n)
       at_past p h =
           let there = subst (λ t. IsMarkedPast p t past) (sym e) h in
@@ -116,12 +108,11 @@ module _ (run : ℕ → State) (n : ℕ) (old : Watch) (s : State) (w : IsWatche
             few = h.few;
             counted = omega (arith, counted, sum, one, long, told);
             near = near;
-            known = subst (λ (t : State). AreBlocks new.near t.core.memory new.blocks.known) (sym e) blocks_now;
           }
 
       pub went_called : (kind : Option AbiKind) → AfterCall s past mid new kind → IsToldNext run (suc n) kind new
       went_called None h = elim h.1 [
-        | inl none ↦ unmarked_watched new none.calls h.0 near blocks_now (λ p marked. none.none p (from_past p marked))
+        | inl none ↦ unmarked_watched new none.calls h.0 near (λ p marked. none.none p (from_past p marked))
         | inr one ↦ added_watched h.0 one
       ]
       went_called (Some NotDormant) h =
@@ -137,7 +128,7 @@ module _ (run : ℕ → State) (n : ℕ) (old : Watch) (s : State) (w : IsWatche
 pub all_of_some : (run : ℕ → State) (n : ℕ) (watch : Watch) → IsWatched run n watch → All IsOfSome watch.calls.items
 all_of_some run n watch w k d l =
     let call : OpenCall = get_or watch.calls.items k d in
-    let h = of_list run n (suc n) watch.calls.items watch.returned call w.walked (k, l, same_at watch.calls.items k call d l) in
+    let h = of_list run n (suc n) watch.calls.items watch.returned call w.walked (k, l, get_or_default watch.calls.items k call d l) in
     (run h.0, h.2.kept)
 
 pub settled_few : (r : State) (old new : Watch) → Settles r old new → length new.calls.items ≤ length old.calls.items
@@ -154,33 +145,7 @@ pub both_ok : {T E : Type 0} (result : Result T E) (P Q R : T → Type 0) → If
 both_ok (Ok x) P Q R p q f = f x p q
 both_ok (Err e) P Q R p q f = tt
 
--- ---- the same calls, with other blocks
-
-pub same_watched : (run : ℕ → State) (n : ℕ) (old new : Watch) → IsWatched run n old → new.calls ≡ old.calls
-    → new.returned ≡ old.returned → new.near ≡ old.near → AreBlocks new.near (run n).core.memory new.blocks.known
-    → IsWatched run n new
-same_watched run n old new w calls returned near known =
-    let items : new.calls.items ≡ old.calls.items = ap (λ (v : Vec OpenCall Global). v.items) calls in
-    let few = w.few in
-    let counted = w.counted in
-    let long : length new.calls.items ≡ length old.calls.items = ap (λ (l : List OpenCall). length l) items in
-    record {
-      none = w.none;
-      lawful = w.lawful;
-      whole = w.whole;
-      walked = subst (λ (l : List OpenCall). IsWalked run n (suc n) l new.returned) (sym items)
-          (subst (λ i. IsWalked run n (suc n) old.calls.items i) (sym returned) w.walked);
-      few = omega (arith, few, long);
-      counted = omega (arith, counted, long, returned);
-      near = subst (λ (l : List OpenCall). AreNear new.near l) (sym items)
-          (subst (λ l. AreNear l old.calls.items) (sym near) w.near);
-      known = known;
-    }
-
 -- ---- a state to which no call comes back
-
-both_near : (b : Bool) → b ≡ true → b ≡ false → ⊥
-both_near b e f = let no : true ≡ false = sym e ∙ f in cc
 
 pub none_back : (run : ℕ → State) (n : ℕ) (watch : Watch) → IsWatched run n watch
     → is_near watch.near (run (suc n)).core.scalars.pc ≡ false → (c : ℕ) (p : Places) → ¬ IsReturn run p c (suc n)
@@ -195,4 +160,4 @@ none_back run n watch w away c p r =
     let near =
     All-contains (λ (call : OpenCall). is_near watch.near call.places.tail ≡ true) watch.calls.items found.0 w.near found.1 in
     let there = subst (λ (q : Places). is_near watch.near q.tail ≡ true) same near in
-    both_near (is_near watch.near (run (suc n)).core.scalars.pc) (ap (λ a. is_near watch.near a) r.back.pc ∙ there) away
+    both_ways (is_near watch.near (run (suc n)).core.scalars.pc) away (ap (λ a. is_near watch.near a) r.back.pc ∙ there)

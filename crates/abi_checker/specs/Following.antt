@@ -45,10 +45,11 @@ pub record IsFollowedBySome (count : ℕ) (context : Context) (watch : Watch) (f
   pub followed : IsFollowed (image_of context) (config_of context) (thread_of context) journal count context
       ticket watch found
 
--- the thread goes on, home, with the same events, after no fewer turns
+-- the thread goes on, home, with the same events, after no fewer turns and instructions
 pub record GoesFar (old new : Context) : Type 0 where
   pub home : is_home new ≡ true
   pub stop : stop_of new ≡ None
   pub journal : journal_of new ≡ journal_of old
   pub same : IsSameThread old new
   pub more : (state_of old).turns ≤ (state_of new).turns
+  pub count : (state_of old).count ≤ (state_of new).count

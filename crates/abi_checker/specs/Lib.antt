@@ -7,7 +7,6 @@ pub mod Brought
 pub mod Keeping
 pub mod Returning
 pub mod Near
-pub mod Straight
+pub mod Halting
 pub mod Watching
-pub mod Planning
 pub mod Following

@@ -1,8 +1,8 @@
 -- The marked calls of a run as far as the code has come, turn by turn.
 use Rattle.std.specs.Prelude.{◌≡◌, ◌⊎◌, ℕ, zero, suc, ◌+◌, ◌<◌, ◌≤◌, ◌^◌, ◌++◌, List, [], ◌∷◌, length, Bool, true, false}
-use Rattle.std.specs.Prelude.{Option, Some, None, not}
+use Rattle.std.specs.Prelude.{Option, Some, None, IfSome, not}
 use Rattle.std.specs.List.{All, filter}
-use Rattle.paged_memory.specs.Memory.{AddressSpace, word_at}
+use Rattle.paged_memory.specs.Memory.{word_at}
 use Rattle.kernel_contexts.specs.State.{State}
 use Rattle.za_routines.specs.Places.{places_of}
 use Rattle.lazy_saving.specs.Dormant.{Places, IsDormantAt}
@@ -10,7 +10,6 @@ use Rattle.abi_checker.specs.Marks.{HasMark, IsCall, IsMarkedCall, IsBackFrom, i
 use Rattle.abi_checker.specs.Faults.{IsMarkedAt, HasFault, HasReturned, IsFirstFault, AreLawful, block_of}
 use Rattle.abi_checker.specs.Whole.{AreWhole}
 use Rattle.abi_checker.specs.Near.{is_near}
-use Rattle.abi_checker.specs.Straight.{AreBlocks}
 use Rattle.abi_checker.specs.Keeping.{IsKept}
 use Rattle.abi_checker.specs.Returning.{is_back, IsFine}
 use Rattle.abi_checker.specs.declared.abi.AbiKind.{AbiKind}
@@ -18,7 +17,11 @@ use Rattle.abi_checker.specs.declared.abi.AbiKind.TheVariants.{NotDormant, NotLa
 use Rattle.abi_checker.specs.declared.open_call.OpenCall.{OpenCall}
 use Rattle.abi_checker.specs.declared.watch.Watch.{Watch}
 
--- a call stands at PC, and this is the address past it
+-- this word stands at PC
+abbrev pub IsNextWord : State → ℕ → Type 0
+IsNextWord s word = word_at s.core.memory s.core.scalars.pc ≡ Some word
+
+-- a call stands there, and this is the address past it
 pub record IsNextCall (s : State) (past : ℕ) : Type 0 where
   pub word : ℕ
   pub there : word_at s.core.memory s.core.scalars.pc ≡ Some word
@@ -46,7 +49,6 @@ pub record Settles (r : State) (old new : Watch) : Type 0 where
   pub left : new.calls.items ≡ filter (λ call. not (is_back r call)) old.calls.items
   pub all : new.returned + length new.calls.items ≡ old.returned + length old.calls.items
   pub near : AreNear new.near new.calls.items
-  pub known : (m : AddressSpace) → AreBlocks old.near m old.blocks.known → AreBlocks new.near m new.blocks.known
 
 -- ---- a call that the thread came from, and the calls after it
 
@@ -54,6 +56,10 @@ pub record Settles (r : State) (old new : Watch) : Type 0 where
 pub record IsMarkedPast (p : Places) (s : State) (past : ℕ) : Type 0 where
   pub place : p.tail ≡ past
   pub mark : HasMark s.core.memory p
+
+-- there was no call, or one behind which there is none
+abbrev pub IsNoMarkPast : State → Option ℕ → Type 0
+IsNoMarkPast s past = IfSome past (λ at. (p : Places) → ¬ IsMarkedPast p s at)
 
 -- it was not marked, and the calls are those before
 pub record IsUnmarkedPast (s : State) (past : ℕ) (old new : Watch) : Type 0 where
@@ -103,7 +109,6 @@ module _ (run : ℕ → State) where
     pub few : length watch.calls.items ≤ 256
     pub counted : watch.returned + length watch.calls.items ≤ (run n).count
     pub near : AreNear watch.near watch.calls.items
-    pub known : AreBlocks watch.near (run n).core.memory watch.blocks.known
 
   -- what is told of the next state, and of the calls by it
   abbrev pub IsToldNext : ℕ → Option AbiKind → Watch → Type 0

@@ -39,6 +39,7 @@ fn word_by_bytes(pages: &Pages, address: u64) -> Option<u32>
 
 /// The word of the four bytes at an address, whatever their permission; `None` exactly where no page has one
 /// of them.
+#[inline(always)]
 pub fn word_in(pages: &Pages, address: u64) -> Option<u32>
     ensures { result ≡ word_in pages.now.memory address }
 {

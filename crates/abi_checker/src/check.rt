@@ -1,22 +1,22 @@
 //! A run that is checked turn by turn.
 ghost use Rattle.std.specs.Prelude.{◌≡◌, ◌≢◌, ◌<◌, ◌^◌, true, List, [], None, length, nat_lt, if◌then◌else◌};
-ghost use Rattle.std.specs.Prelude.{IfOk, IfErr};
+ghost use Rattle.std.specs.Prelude.{IfOk, IfErr, IfSome};
 ghost use Rattle.sm_types.specs.declared.shared_op.Event.{Event};
 ghost use Rattle.shared_region.specs.Ports.{ReplayEvents};
 ghost use Rattle.lone_runner.specs.Parting.{IsParting};
-ghost use Rattle.kernel_contexts.specs.Context.{config_of, image_of, thread_of, is_home, stop_of};
-ghost use Rattle.paged_memory.specs.Memory.{AddressSpace};
-ghost use Rattle.abi_checker.specs.Straight.{AreBlocks};
+ghost use Rattle.kernel_contexts.specs.Context.{state_of, config_of, image_of, thread_of, is_home, stop_of};
+ghost use Rattle.abi_checker.specs.Watching.{IsNextWord};
 ghost use Rattle.abi_checker.specs.Following.{GoesFar, IsFollowed, IsFollowedBySome};
 ghost use Rattle.lone_runner.specs.Replayed.{IsAtStart};
 ghost use Rattle.abi_checker.specs.Checked.{IsChecked};
 
 use crate::abi::Abi;
-use crate::marks::next_call;
+use crate::marks::{call_at, next_call};
 use crate::watch::Watch;
 use crate::whole::context_is_whole;
 use kernel_contexts::{Context, contexts_are_plain};
 use lone_runner::{AloneFault, make_turn, parting};
+use machine_step::Never;
 use paged_memory::Image;
 use shared_region::ReplayTicket;
 use sm_types::{Config, Event, Memory};
@@ -30,9 +30,75 @@ fn call_made(call: Option<u64>, before: u32, now: u32) -> Option<u64>
     if before < now { call } else { None }
 }
 
-/// Makes turns at once, one block after another, and tells of the calls in their states, as long as none is at
-/// fault; a call, or another instruction that is of no block, is made by itself. It ends where the next turn may
-/// be more than an instruction, and at the count. `Memory` is want of memory.
+/// How turns that were made at once ended.
+#[derive(Clone, Copy)]
+struct Pause {
+    /// The fault that was told in the last state.
+    found: Option<Abi>,
+    /// The word at PC, if it was told to halt before it.
+    halt: Option<u32>,
+}
+
+/// Makes turns at once up to a call or to where one may come back, and tells of the state there: in none before
+/// is anything to be told. It ends too where the next turn may be more than an instruction, and at the count.
+/// `Memory` is want of memory.
+#[inline]
+fn go_to_halt(context: &mut Context, count: u32, watch: &mut Watch) -> Result<Pause, Memory>
+    requires home { is_home context.old ≡ true }
+    requires runs { stop_of context.old ≡ None }
+    requires some { IsFollowedBySome count context.old watch.old None }
+    ensures followed { (journal : List Event) (ticket : ReplayEvents)
+        → IsFollowed (image_of context.old) (config_of context.old) (thread_of context.old) journal count
+        context.old ticket watch.old None
+        → IfOk result (λ pause. IsFollowed (image_of context.old) (config_of context.old)
+        (thread_of context.old) journal count context.new ticket watch.new pause.found) }
+    ensures goes { GoesFar context.old context.new }
+    ensures there { IfOk result (λ pause. IfSome pause.halt (IsNextWord (state_of context.new))) }
+{
+    let left = count - context.count();
+    let made = context.advance_several(&watch.halting(), left);
+    let halt = made.halt;
+    if made.count == 0 {
+        return Ok(Pause { found: None, halt });
+    }
+    context_is_whole(context);
+    let found = watch.tell(context, None, None)?;
+    Ok(Pause { found, halt })
+}
+
+/// Makes the turn of the instruction of that word, which stands at PC, and tells of the state after it. None is
+/// made where it may be more than an instruction, and at the count. `Memory` is want of memory.
+#[inline]
+fn make_halted(
+    context: &mut Context,
+    count: u32,
+    watch: &mut Watch,
+    word: u32,
+) -> Result<Option<Abi>, Memory>
+    requires home { is_home context.old ≡ true }
+    requires runs { stop_of context.old ≡ None }
+    requires some { IsFollowedBySome count context.old watch.old None }
+    requires there { IsNextWord (state_of context.old) word }
+    ensures followed { (journal : List Event) (ticket : ReplayEvents)
+        → IsFollowed (image_of context.old) (config_of context.old) (thread_of context.old) journal count
+        context.old ticket watch.old None
+        → IfOk result (λ found. IsFollowed (image_of context.old) (config_of context.old)
+        (thread_of context.old) journal count context.new ticket watch.new found) }
+    ensures goes { GoesFar context.old context.new }
+{
+    let left = count - context.count();
+    let call = call_at(context, word);
+    let made = context.advance_several(&Never, left.min(1));
+    if made.count == 0 {
+        return Ok(None);
+    }
+    context_is_whole(context);
+    watch.tell(context, call, None)
+}
+
+/// Makes turns at once, from one halt to the next, and tells of the calls in their states, as long as none is
+/// at fault; that before which it halts is made by itself. It ends where the next turn may be more than an
+/// instruction, and at the count. `Memory` is want of memory.
 fn go_at_once(context: &mut Context, count: u32, watch: &mut Watch) -> Result<Option<Abi>, Memory>
     requires home { is_home context.old ≡ true }
     requires runs { stop_of context.old ≡ None }
@@ -45,19 +111,20 @@ fn go_at_once(context: &mut Context, count: u32, watch: &mut Watch) -> Result<Op
     ensures goes { GoesFar context.old context.new }
 {
     'rounds: loop {
-        let left = count - context.count();
-        let next = watch.next_turns(context);
-        let made = context.advance_several(next.most.min(left));
-        if made == 0 {
+        let pause = go_to_halt(context, count, watch)?;
+        if pause.found.is_some() {
+            return Ok(pause.found);
+        }
+        let Some(word) = pause.halt else {
             return Ok(None);
-        }
-        context_is_whole(context);
-        if watch.passes(context, next.call) {
-            continue;
-        }
-        let found = watch.tell(context, next.call, None)?;
+        };
+        let before = context.count();
+        let found = make_halted(context, count, watch, word)?;
         if found.is_some() {
             return Ok(found);
+        }
+        if context.count() == before {
+            return Ok(None);
         }
     }
 }
@@ -84,7 +151,7 @@ fn go_far(
         return go_at_once(context, count, watch);
     }
     let left = count - context.count();
-    context.advance_several(left);
+    context.advance_several(&Never, left);
     Ok(found)
 }
 
@@ -98,7 +165,6 @@ fn follow(
     requires start { IsAtStart context.old ticket.old }
     requires calls { watch.old.calls.items ≡ [] }
     requires returned { watch.old.returned ≡ 0 }
-    requires known { (m : AddressSpace) → AreBlocks watch.old.near m watch.old.blocks.known }
     ensures checked { IfOk result (λ abi. IsChecked (image_of context.old) (config_of context.old)
         (thread_of context.old) ticket.old.ahead count abi) }
     ensures parts { IfErr result (λ fault. fault ≢ AloneFault.Memory

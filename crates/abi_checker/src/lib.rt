@@ -4,9 +4,9 @@
 #![tactic(auto)]
 
 mod abi;
-mod blocks;
 mod bytes;
 mod check;
+mod halting;
 mod laws;
 mod marks;
 mod near;

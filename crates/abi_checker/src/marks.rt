@@ -1,5 +1,5 @@
 //! Marked calls.
-ghost use Rattle.std.specs.Prelude.{◌≡◌, ◌+◌, ◌%◌, ◌^◌, ℤ, true, Some, IfSome, IfNone, IsTrue};
+ghost use Rattle.std.specs.Prelude.{◌≡◌, ◌+◌, ◌%◌, ◌^◌, ℤ, true, false, Some, IfSome, IfNone, IsTrue};
 ghost use Rattle.sm_types.specs.declared.insn.Insn.TheVariants as insn;
 ghost use Rattle.sm_types.specs.declared.insn.Branch.TheVariants as branch;
 ghost use Rattle.sm_types.specs.Routines.{tail_words};
@@ -10,7 +10,7 @@ ghost use Rattle.lazy_saving.specs.Dormant.{Places};
 ghost use Rattle.za_routines.specs.Places.{places_of};
 ghost use Rattle.abi_checker.specs.Marks as marks;
 ghost use Rattle.abi_checker.specs.Marks.{HasMark};
-ghost use Rattle.abi_checker.specs.Watching.{IsNextCall, IsNoCall};
+ghost use Rattle.abi_checker.specs.Watching.{IsNextCall, IsNextWord, IsNoCall, IsNoMarkPast};
 
 use crate::bytes::{are_words, word_in};
 use insn_decode::decode;
@@ -43,6 +43,20 @@ pub fn next_call(context: &Context) -> Option<u64>
     }
 }
 
+/// The same, of the word that stands there.
+#[inline]
+pub fn call_at(context: &Context, word: u32) -> Option<u64>
+    requires { IsNextWord (state_of context.now) word }
+    ensures some { IfSome result (λ past. IsNextCall (state_of context.now) past) }
+    ensures none { IfNone result (IsNoCall (state_of context.now)) }
+{
+    if is_call_word(word) {
+        Some(context.machine().scalars.pc.wrapping_add(4))
+    } else {
+        None
+    }
+}
+
 /// The address to which the word at an address calls, if it is that of a BL.
 fn target_of(word: u32, address: u64) -> Option<u64>
     ensures some { IfSome result (λ target. (distance : ℤ)
@@ -72,12 +86,23 @@ fn tail_words(call: u32) -> [u32; 6]
 pub const TAIL_START: u32 = 0xD503_457F;
 
 /// Whether the first word of a tail is at an address; where it is not, there is no tail.
-#[inline]
+#[inline(always)]
 fn has_first_word(pages: &Pages, tail: u64) -> bool
     ensures { (p : Places) → p.tail ≡ tail → HasMark pages.now.memory p → IsTrue result }
 {
     match word_in(pages, tail) {
         Some(word) => word == TAIL_START,
+        None => false,
+    }
+}
+
+/// Whether the first word of a tail stands behind a call.
+#[inline(always)]
+pub fn may_be_marked(context: &Context, past: Option<u64>) -> bool
+    ensures { result ≡ false → IsNoMarkPast (state_of context.now) past }
+{
+    match past {
+        Some(past) => has_first_word(&context.machine().pages, past),
         None => false,
     }
 }

@@ -7,13 +7,11 @@ ghost use Rattle.kernel_contexts.specs.State.{State};
 ghost use Rattle.abi_checker.specs.Returning.{is_back, IsOfSome, IsFine, IsUnlawful};
 ghost use Rattle.abi_checker.specs.Watching.{AreNear};
 ghost use Rattle.abi_checker.specs.Near.{is_near};
-ghost use Rattle.abi_checker.specs.Straight.{AreBlocks, KeepsCode};
-ghost use Rattle.paged_memory.specs.Memory.{AddressSpace};
 ghost use Rattle.abi_checker.specs.declared.open_call.OpenCall.{OpenCall};
 
 use crate::abi::{Abi, AbiKind};
-use crate::blocks::{Blocks, Next};
-use crate::marks::{mark_at, next_call};
+use crate::halting::Halting;
+use crate::marks::{mark_at, may_be_marked};
 use crate::near::{SLOTS, slot_of, slots_of};
 use crate::open_call::OpenCall;
 use kernel_contexts::Context;
@@ -33,14 +31,11 @@ pub struct Watch {
     pub returned: u32,
     /// Which slots their tails fall to, and maybe others: at most turns this alone is looked at.
     pub near: [bool; SLOTS],
-    /// Runs of instructions at which nothing is told of them.
-    pub blocks: Blocks,
 }
 
 impl Watch {
-    ghost use Rattle.abi_checker.specs.Watching.{AfterCall, IsPast, IsSomewhere, IsToldNext, IsWatched, Settles};
+    ghost use Rattle.abi_checker.specs.Watching.{AfterCall, IsNoMarkPast, IsPast, IsSomewhere, IsToldNext, IsWatched, Settles};
     ghost use Rattle.abi_checker.specs.Following.{IsUnderWay, IsSomewhereWith};
-    ghost use Rattle.abi_checker.specs.Planning.{IsPlanned};
     ghost use Rattle.abi_checker.specs.Checked.{IsTold};
     ghost use Rattle.abi_checker.specs.Whole.{IsWholeAt};
 
@@ -48,19 +43,17 @@ impl Watch {
     pub fn new(alloc: Global) -> Watch
         ensures calls { result.calls.items ≡ [] }
         ensures returned { result.returned ≡ 0 }
-        ensures known { (m : AddressSpace) → AreBlocks result.near m result.blocks.known }
     {
         Watch {
             alloc,
             calls: Vec::new(alloc),
             returned: 0,
             near: [false; SLOTS],
-            blocks: Blocks::none(),
         }
     }
 
     /// Whether a call may come back to an address: none does where this is false.
-    #[inline]
+    #[inline(always)]
     fn is_near(&self, pc: u64) -> bool
         ensures { result ≡ is_near self.now.near pc }
     {
@@ -95,13 +88,11 @@ impl Watch {
         ensures all { self.new.returned + length self.new.calls.items
             ≡ self.old.returned + length self.old.calls.items }
         ensures near { AreNear self.new.near self.new.calls.items }
-        ensures known { (m : AddressSpace) → AreBlocks self.new.near m self.new.blocks.known }
     {
         let before = self.calls.len();
         self.calls.retain(|call| !call.is_back(context));
         self.returned += (before - self.calls.len()) as u32;
         self.near = slots_of(self.calls.as_slice());
-        self.blocks = Blocks::none();
     }
 
     /// Takes out the calls that return in the state that the thread has come to; tells whether the callee of
@@ -135,9 +126,6 @@ impl Watch {
         ensures after { IfOk result (λ kind.
             AfterCall (state_of context.now) past self.old self.new kind) }
         ensures near { IfOk result (λ kind. AreNear self.new.near self.new.calls.items) }
-        ensures known { IfOk result (λ kind. (m : AddressSpace)
-            → AreBlocks self.old.near m self.old.blocks.known
-            → AreBlocks self.new.near m self.new.blocks.known) }
     {
         let Some(places) = mark_at(&context.machine().pages, past) else {
             return Ok(None);
@@ -150,33 +138,15 @@ impl Watch {
         }
         self.calls.push(call).map_err(|_| Memory)?;
         self.near[slot_of(places.tail)] = true;
-        self.blocks = Blocks::none();
         Ok(None)
     }
 
-    /// The turns that are to be made next: those of a block, at none of which is anything told but in the state
-    /// after the last, or one.
+    /// Where turns that are made at once are to halt: before each call, and where one may come back.
     #[inline]
-    pub fn next_turns(&mut self, context: &Context) -> Next
-        ensures watched { (run : ℕ → State) (n : ℕ) → IsWatched run n self.old
-            → run n ≡ state_of context.now → IsWatched run n self.new }
-        ensures planned { (run : ℕ → State) (n : ℕ) → IsWatched run n self.old
-            → run n ≡ state_of context.now → IsPlanned self.new.near (run n) result }
+    pub fn halting(&self) -> Halting
+        ensures { result.near ≡ self.now.near }
     {
-        let machine = context.machine();
-        let block = self
-            .blocks
-            .find(&machine.pages, machine.scalars.pc, &self.near);
-        if block > 0 {
-            return Next {
-                most: block,
-                call: None,
-            };
-        }
-        Next {
-            most: 1,
-            call: next_call(context),
-        }
+        Halting { near: self.near }
     }
 
     /// Goes on to the state that the thread has come to by its turn, which was a call if there is an address
@@ -186,7 +156,6 @@ impl Watch {
         requires somewhere { IsSomewhere self.old }
         ensures { (run : ℕ → State) (n : ℕ) → IsWatched run n self.old → run (suc n) ≡ state_of context.now
             → IsPast (run n) (run (suc n)) past → (run n).count ≤ (run (suc n)).count → IsWholeAt run (suc n)
-            → KeepsCode (run n).core.memory (run (suc n)).core.memory
             → IfOk result (λ kind. IsToldNext run (suc n) kind self.new) }
     {
         if self.settle(context)? {
@@ -211,7 +180,6 @@ impl Watch {
         ensures { (run : ℕ → State) (n : ℕ) → IsUnderWay run n self.old found
             → run (suc n) ≡ state_of context.now → IsPast (run n) (run (suc n)) past
             → (run n).count ≤ (run (suc n)).count → IsWholeAt run (suc n)
-            → KeepsCode (run n).core.memory (run (suc n)).core.memory
             → IfOk result (λ told. IsUnderWay run (suc n) self.new told) }
     {
         if found.is_some() {
@@ -228,7 +196,7 @@ impl Watch {
     }
 
     /// The same; at most turns nothing is to be told, as they were no call and no call comes back there.
-    #[inline]
+    #[inline(always)]
     pub fn tell(
         &mut self,
         context: &Context,
@@ -240,7 +208,6 @@ impl Watch {
         ensures { (run : ℕ → State) (n : ℕ) → IsUnderWay run n self.old found
             → run (suc n) ≡ state_of context.now → IsPast (run n) (run (suc n)) past
             → (run n).count ≤ (run (suc n)).count → IsWholeAt run (suc n)
-            → KeepsCode (run n).core.memory (run (suc n)).core.memory
             → IfOk result (λ told. IsUnderWay run (suc n) self.new told) }
     {
         if self.passes(context, past) {
@@ -250,13 +217,13 @@ impl Watch {
     }
 
     /// Whether nothing is to be told: the turn was no marked call, and no call comes back there.
-    #[inline]
-    pub fn passes(&self, context: &Context, past: Option<u64>) -> bool
-        ensures call { IsTrue result → past ≡ None }
+    #[inline(always)]
+    fn passes(&self, context: &Context, past: Option<u64>) -> bool
+        ensures call { IsTrue result → IsNoMarkPast (state_of context.now) past }
         ensures away { IsTrue result
             → is_near self.now.near (state_of context.now).core.scalars.pc ≡ false }
     {
-        past.is_none() && !self.is_near(context.machine().scalars.pc)
+        !may_be_marked(context, past) && !self.is_near(context.machine().scalars.pc)
     }
 
     /// What is told of a run that is at its end.

@@ -1,6 +1,7 @@
 -- Lines of which none has a fault by itself: what holds of the first, of the location counters and of the labels.
-use Rattle.std.proofs.Common.{◌≡◌, ℕ, ◌+◌, ◌≤◌, Bool, true, false, cond, List, [], ◌∷◌, ◌++◌, map, Option, Some, None, Result, Ok, Err, ◌||◌}
+use Rattle.std.proofs.Common.{◌≡◌, ℕ, ◌+◌, ◌≤◌, Bool, true, false, cond, List, [], ◌∷◌, ◌++◌, map, Option, Some, None, Result, Ok, Err}
 use Rattle.std.proofs.Common.{nat_lt, refl, sym, ap, ◌∙◌, subst, arith, ltb-false}
+use Rattle.std.proofs.lemmas.Bool.{or_parts}
 use Rattle.std.specs.Prelude.{option_map}
 use Rattle.std.specs.List.{find}
 use Rattle.std.specs.Str.{bytes_eq}
@@ -22,6 +23,7 @@ use Rattle.asm_core.specs.Code.{NamedByte, code_words, names_said}
 use Rattle.asm_core.specs.Layout.{here, here_in, size_of, grown_in, Label, label_at, label_past, labels_at, if_some, counter_after, counter_past, labels_from}
 use Rattle.asm_core.specs.Layout.{label_named, label_position, labels_of, names_of, first_counter}
 use Rattle.std.specs.Option.{option_or as or_else}
+use Rattle.plain_lemmas.proofs.Options.{same_Ok}
 use Rattle.asm_core.specs.Faults.{fault_if, misaligned, is_doubled, is_too_large, line_fault, labels_after, after_line, lines_fault}
 use Rattle.asm_core.specs.Faults.{text_length_of}
 use Rattle.asm_core.specs.Limits.{IsInLimits}
@@ -84,14 +86,10 @@ said_first text texts line e = rw e refl
 
 -- ---- limits
 
-neither_part : (a b : Bool) → (a || b) ≡ false → (a ≡ false) × (b ≡ false)
-neither_part true b e = cc
-neither_part false b e = (refl, e)
-
 pub limits_after : (p : LocationCounter) (says : Says) → is_too_large p says ≡ false → IsInLimits (counter_after p says)
 unfolding is_too_large
 limits_after p says e =
-    let parts = neither_part (nat_lt 4194304 (counter_after p says).text_size) (nat_lt 4194304 (counter_after p says).data_size) e in
+    let parts = or_parts (nat_lt 4194304 (counter_after p says).text_size) (nat_lt 4194304 (counter_after p says).data_size) e in
     record { text = ltb-false _ _ parts.0; data_part = ltb-false _ _ parts.1 }
 
 pub limits_past : (n : ℕ) (p : LocationCounter) (labels : List Label) (texts : List (List ℕ)) → IsInLimits p
@@ -116,11 +114,8 @@ pub fits_here : (p : LocationCounter) (says : Says) → is_too_large p says ≡ 
 unfolding counter_after
 fits_here p says e = let h = limits_after p says e in fits_in p.part p (size_of says (here p)) h.text h.data_part
 
-same_line : (a b : SourceLine) → ◌≡◌ {A = Result SourceLine LineFault} (Ok a) (Ok b) → a ≡ b
-same_line a b e = cc
-
 pub one_line : (text : List ℕ) (a b : SourceLine) → line_of text ≡ Ok a → line_of text ≡ Ok b → a ≡ b
-one_line text a b e f = same_line a b (sym e ∙ f)
+one_line text a b e f = same_Ok a b (sym e ∙ f)
 
 -- a line that is fine, as it was parsed
 pub fine_fits : (p : LocationCounter) (text : List ℕ) (line : SourceLine) → IsFine p text → line_of text ≡ Ok line

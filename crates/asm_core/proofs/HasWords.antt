@@ -1,6 +1,7 @@
 -- The word of a line of the grammar means an instruction.
-use Rattle.std.proofs.Common.{◌≡◌, ℕ, zero, suc, ◌-◌, ◌^◌, true, false, cond, List, [], ◌∷◌, map, Option, Some, None, Result, Ok, refl, subst}
+use Rattle.std.proofs.Common.{◌≡◌, ℕ, zero, suc, ◌-◌, ◌^◌, true, false, cond, List, [], ◌∷◌, map, Option, Some, None, Ok, refl, subst}
 use Rattle.std.specs.Prelude.{is_some, slice_get}
+use Rattle.plain_lemmas.proofs.Options.{same_Ok}
 use Rattle.a64_encode.specs.Either.{instruction_of}
 use Rattle.insn_text.specs.declared.keywords.TheConstants.{MNEMONICS}
 use Rattle.asm_tokens.specs.declared.token.Token.{Token}
@@ -13,7 +14,6 @@ use Rattle.asm_operands.specs.declared.operands.Target.{Target}
 use Rattle.asm_operands.specs.Operands.{OperandsSaid, operands_said}
 use Rattle.asm_operands.specs.Operands as operands
 use Rattle.asm_operands.proofs.AnyDistance.{said-means, target-sound, resolved-means}
-use Rattle.asm_parser.specs.declared.line.LineFault.{LineFault}
 use Rattle.asm_parser.specs.Statements.{Says, TargetSaid, Code, SupportRoutines, CallTail, Codes, IntoText, IntoData, Quads, Words, Bytes, Zeros, Aligns, Globals}
 use Rattle.asm_parser.specs.Statements.{SourceLine}
 use Rattle.asm_parser.specs.Lines.{Answer, Tells, Stops, and_then, further, ends, number_value, one_number, one_name, values_from}
@@ -135,12 +135,9 @@ tokens_told line (l ∷ ls) =
       | false ↦ tt
     ]
 
-same_line : (a b : SourceLine) → ◌≡◌ {A = Result SourceLine LineFault} (Ok a) (Ok b) → a ≡ b
-same_line a b e = cc
-
 answer_told : (text : List ℕ) (label : Option (List ℕ)) (ls : List Lexeme) (a : Answer Says) (line : SourceLine) → Told a
     → line_answer text label ls a ≡ Ok line → HasWord line.says
-answer_told text label ls (Tells says) line h e = subst (λ (l : SourceLine). HasWord l.says) (same_line _ line e) h
+answer_told text label ls (Tells says) line h e = subst (λ (l : SourceLine). HasWord l.says) (same_Ok _ line e) h
 answer_told text label ls (Stops index kind) line h e = cc
 
 pub line_word : (text : List ℕ) (line : SourceLine) → line_of text ≡ Ok line → HasWord line.says

@@ -5,11 +5,13 @@ use Rattle.std.proofs.Common.{ltb-false, ℤ, pos, ◌-ℤ◌, ◌*ℤ◌, lt-lt
 use Rattle.std.specs.Option.{option_or}
 use Rattle.std.proofs.lemmas.Int.{ints}
 use Rattle.std.proofs.Math.Nat.{mul-mod_left, mul-div_left}
+use Rattle.std.proofs.lemmas.Option.{same_Some}
+use Rattle.plain_lemmas.proofs.Numbers.{two_pow-halves}
 use Rattle.insn_forms.specs.declared.field.Field.{Field}
 use Rattle.insn_forms.specs.declared.line.Line.{Line}
 use Rattle.insn_forms.specs.Fields.{bits_of, field_in, signed_value}
 use Rattle.insn_forms.specs.Tables.{meaning_in, meaning_by, stands_for, numbers_in, signed_numbers_in}
-use Rattle.insn_forms.proofs.Bits.{field_in-lt, doubled}
+use Rattle.insn_forms.proofs.Bits.{field_in-lt}
 use Rattle.a64_table.specs.declared.operation.Operation.{Operation}
 use Rattle.a64_table.specs.declared.operation.Operation.TheVariants.{G9, G10, G19}
 use Rattle.a64_table.specs.declared.operation.BranchOp.TheVariants.{B, Bl, BCond, Cbz, Cbnz, Tbz, Tbnz}
@@ -26,9 +28,6 @@ use Rattle.sm_types.specs.declared.insn.Branch.{Branch}
 use Rattle.sm_types.specs.declared.insn.Branch.TheVariants as branch
 use Rattle.a64_encode.specs.Either.{instruction_of}
 use Rattle.asm_operands.specs.Fields.{signed_field}
-
-some_is : {A : Type 0} (a b : A) → ◌≡◌ {A = Option A} (Some a) (Some b) → a ≡ b
-some_is a b e = cc
 
 -- a number that a field of so many bits has in two's complement
 pub record Holds (bits : ℕ) (z : ℤ) : Type 0 where
@@ -68,7 +67,7 @@ named_range op v = tt
 
 row_range : (b : Bool) (op : Operation) (v : ℕ) (rest : Option Insn) (other : Insn) → (rest ≡ Some other → in_range other)
     → cond b (Some (named op (numbers_in v) (signed_numbers_in v))) rest ≡ Some other → in_range other
-row_range true op v rest other h e = subst in_range (some_is _ other e) (named_range op v)
+row_range true op v rest other h e = subst in_range (same_Some _ other e) (named_range op v)
 row_range false op v rest other h e = h e
 
 rows_range : (rows : List (Line Operation)) (v : ℕ) (other : Insn) → meaning_in scalar rows v ≡ Some other → in_range other
@@ -118,7 +117,7 @@ by_half : (bits number : ℕ) (z : ℤ) (b : Bool) → 0 < bits → number < 2 ^
     → z ≡ cond b (pos number) (pos number -ℤ pos (2 ^ bits)) → IsAhead bits z ⊎ IsBack bits z
 by_half bits number z true some lt low e = inl (record { count = number; low = ltb-true _ _ low; value = e })
 by_half bits number z false some lt low e =
-    let d = doubled bits some in
+    let d = two_pow-halves bits some in
     let high = ltb-false _ _ low in
     inr (record {
       count = 2 ^ bits - number;

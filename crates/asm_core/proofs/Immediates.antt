@@ -9,12 +9,15 @@ use Rattle.std.proofs.lemmas.Bool.{and_parts, cond-true, cond-false}
 use Rattle.std.proofs.lemmas.Int.{ints}
 use Rattle.std.proofs.lemmas.Nat.{and_assoc, and_comm, or_comm, or_lt, pow_pos, mod_below}
 use Rattle.std.proofs.Math.Nat.{zero-mod, zero-div, mod_self, mod-add-div}
+use Rattle.std.proofs.lemmas.Option.{same_Some}
+use Rattle.plain_lemmas.proofs.Tests.{implied}
+use Rattle.plain_lemmas.proofs.Lists.{list_all-get, list_all-drop, list_all-take}
+use Rattle.plain_lemmas.proofs.Numbers.{two_pow-halves}
 use Rattle.insn_forms.specs.declared.field.Field.{Field}
 use Rattle.insn_forms.specs.declared.line.Line.{Line}
 use Rattle.insn_forms.specs.Fields.{bits_of, field_in, is_field, signed_value, placed, mask_of, upper_mask, lower_mask}
 use Rattle.insn_forms.specs.Tables.{Means, numbers_in, signed_numbers_in}
-use Rattle.insn_forms.proofs.Bits.{field_in-lt, placed-field, placed-within, placed-one, placed-lt, placed-le, a_field, doubled}
-use Rattle.insn_forms.proofs.Laws.{all-get}
+use Rattle.insn_forms.proofs.Bits.{field_in-lt, placed-field, placed-within, placed-one, placed-lt, placed-le, a_field}
 use Rattle.a64_table.specs.declared.operation.Operation.{Operation}
 use Rattle.a64_table.specs.declared.operation.Operation.TheVariants.{G9, G10, G19}
 use Rattle.a64_table.specs.declared.operation.BranchOp.TheVariants.{B, Bl, BCond, Cbz, Cbnz, Tbz, Tbnz}
@@ -52,15 +55,12 @@ use Rattle.asm_operands.specs.Operands.{Says}
 use Rattle.asm_operands.specs.Operands as operands
 use Rattle.asm_operands.specs.Distances.{unit_of, with_distance}
 use Rattle.asm_operands.specs.Sound.{has_factor, is_sound}
-use Rattle.asm_operands.proofs.Tables.{all-take, all-drop, items_of-sound}
+use Rattle.asm_operands.proofs.Tables.{items_of-sound}
 use Rattle.asm_operands.proofs.AnyDistance.{is_said, word_kept, or_clear, is_no_vector, never_vector}
 use Rattle.asm_operands.proofs.WordBits.{and_swap}
 use Rattle.asm_core.specs.Resolved.{with_immediate, unit_in, base_in, IsResolved, MeansResolved}
 use Rattle.asm_core.specs.Targets.{counted_from, word_to}
 use Rattle.asm_core.proofs.ImmediateRanges.{Holds, branch_range, in_range, ranges, word_range}
-
-some_is : {A : Type 0} (a b : A) → ◌≡◌ {A = Option A} (Some a) (Some b) → a ≡ b
-some_is a b e = cc
 
 -- ---- the immediate of each operation that has a distance
 
@@ -141,7 +141,7 @@ found name ts w target e =
     let first = slice_index STARTS name in
     let count = slice_index STARTS (name + 1) - first in
     found_in (take count (drop first SHAPES)) ts w target
-    (all-take fit_rows count (drop first SHAPES) (all-drop fit_rows first SHAPES shapes_fit)) s.word s.named
+    (list_all-take fit_rows count (drop first SHAPES) (list_all-drop fit_rows first SHAPES shapes_fit)) s.word s.named
 
 -- ---- the target is the last operand, and its token a name
 
@@ -158,7 +158,7 @@ last_if : (d n : Bool) (j : Item) (index : ℕ) (target : Target)
     → option_map (λ (i : Item). record { index = index; operand = i }) (cond (d && n) (Some j) None) ≡ Some target → (j ≡ target.operand)
     × (d ≡ true) × (n ≡ true)
 last_if true true j index target e =
-    let same : record { index = index; operand = j } ≡ target = some_is _ target e in (ap (λ (x : Target). x.operand) same, refl, refl)
+    let same : record { index = index; operand = j } ≡ target = same_Some _ target e in (ap (λ (x : Target). x.operand) same, refl, refl)
 last_if true false j index target e = cc
 last_if false n j index target e = cc
 
@@ -216,11 +216,11 @@ zero_by : (i : Item) (partial next : PartialWord) (b : Bool) (w : ℕ) → agree
 unfolding agrees with_field
 zero_by i partial next false w a e h = cc
 zero_by i partial next true w a e h =
-    let same = some_is (with_field i partial 0) next e in
+    let same = same_Some (with_field i partial 0) next e in
     let parts = and_parts (bit_and partial.value (operands.mask_of i) == bit_and (operands.placed i 0) partial.mask) _ a in
     let value : partial.value ≡ w =
     sym (or_none partial.value) ∙ ap (bit_or partial.value) (sym (placed_zero i)) ∙ ap (λ (k : PartialWord). k.value) same
-    ∙ some_is next.value w h in
+    ∙ same_Some next.value w h in
     ap (λ v. bit_and v (operands.mask_of i)) (sym value) ∙ eqb-true _ _ parts.0 ∙ ap (λ p. bit_and p partial.mask) (placed_zero i)
     ∙ none_and partial.mask
 
@@ -241,8 +241,8 @@ unfolding taken
 zero_last [] partial ts w index i t e g h le d n = cc
 zero_last (j ∷ is) partial [] w index i t e g h le d n = cc
 zero_last (j ∷ is) partial (u ∷ ts) w zero i t e g h le d n =
-    let item : j ≡ i = some_is j i g in
-    let token : u ≡ t = some_is u t h in
+    let item : j ≡ i = same_Some j i g in
+    let token : u ≡ t = same_Some u t h in
     elim (partial_after j partial u) as (λ o. partial_after j partial u ≡ o → taken_on (λ next. taken is next ts) o ≡ Some w
     → bit_and w (operands.mask_of i) ≡ 0) [
       | None ↦ λ is_none f. cc
@@ -273,20 +273,16 @@ record IsRowOf (i : Item) (w : ℕ) (it : Insn) : Type 0 where
   clear : bit_and row.mask (mask_of (immediate_of row.operation)) ≡ 0
   is_word : w < 2 ^ 32
 
-when_true : (a b : Bool) → a ≡ true → (not a || b) ≡ true → b ≡ true
-when_true true b e h = h
-when_true false b e h = cc
-
 row_of : (s : Shape) (i : Item) (ts : List Token) (w : ℕ) (it : Insn) → word_in s ts ≡ Some w → list_all (fits_row i s) SCALAR_LINES ≡ true
     → Means scalar w it → IsRowOf i w it
 unfolding fits_row scalar
 row_of s i ts w it said all m =
-    let fit = all-get (fits_row i s) SCALAR_LINES m.place m.line all m.listed in
+    let fit = list_all-get (fits_row i s) SCALAR_LINES m.place m.line all m.listed in
     let common : bit_and m.line.value s.mask ≡ bit_and (bit_and s.value s.mask) m.line.mask =
     ap (λ v. bit_and v s.mask) (sym m.matches) ∙ and_swap w m.line.mask s.mask ∙ ap (λ v. bit_and v m.line.mask) (word_kept s ts w said) in
     let parts =
     and_parts (is_immediate i m.line.operation) (bit_and m.line.mask (mask_of (immediate_of m.line.operation)) == 0)
-    (when_true _ _ (eq-eqb _ _ common) fit) in
+    (implied _ _ fit (eq-eqb _ _ common)) in
     record {
       index = m.place;
       row = m.line;
@@ -341,9 +337,6 @@ record IsHeld (bits scale size number : ℕ) (back : Bool) : Type 0 where
   size_is : size ≡ count * scale
   value : signed_value bits number ≡ cond back (pos 0 -ℤ pos count) (pos count)
 
-two_halves : (bits : ℕ) → 0 < bits → 2 ^ bits ≡ 2 ^ (bits - 1) + 2 ^ (bits - 1)
-two_halves bits some = doubled bits some
-
 held_ahead : (bits count : ℕ) → nat_lt count (2 ^ (bits - 1)) ≡ true → signed_value bits count ≡ pos count
 unfolding signed_value
 held_ahead bits count e = cond-true _ _ _ e
@@ -356,7 +349,7 @@ held_back bits zero some le =
     let z : (2 ^ bits - 0) % 2 ^ bits ≡ 0 = ap (λ n. n % 2 ^ bits) all ∙ mod_self (2 ^ bits) in
     ap (λ n. cond (nat_lt n (2 ^ (bits - 1))) (pos n) (pos n -ℤ pos (2 ^ bits))) z ∙ cond-true _ _ _ (lt-ltb 0 (2 ^ (bits - 1)) p)
 held_back bits (suc count) some le =
-    let d = two_halves bits some in
+    let d = two_pow-halves bits some in
     let same : (2 ^ bits - suc count) % 2 ^ bits ≡ 2 ^ bits - suc count =
     mod-eq_of_lt (let l : 2 ^ bits - suc count < 2 ^ bits = omega (arith, pow_pos (bits - 1)) in l) in
     let high : 2 ^ (bits - 1) ≤ 2 ^ bits - suc count = omega arith in
@@ -376,7 +369,7 @@ held_if : (bits scale size number : ℕ) (exact low_back low_ahead back : Bool) 
     (cond low_ahead (Some (size / scale)) None)) ≡ Some number → IsHeld bits scale size number back
 held_if bits scale size number false low_back low_ahead back some e f g h = cc
 held_if bits scale size number true true low_ahead true some e f g h =
-    let same = some_is ((2 ^ bits - size / scale) % 2 ^ bits) number h in
+    let same = same_Some ((2 ^ bits - size / scale) % 2 ^ bits) number h in
     record {
       lt = subst (λ n. n < 2 ^ bits) same (mod_below (2 ^ bits - size / scale) (2 ^ bits) (pow_pos bits));
       count = size / scale;
@@ -385,10 +378,10 @@ held_if bits scale size number true true low_ahead true some e f g h =
     }
 held_if bits scale size number true false low_ahead true some e f g h = cc
 held_if bits scale size number true low_back true false some e f g h =
-    let same = some_is (size / scale) number h in
+    let same = same_Some (size / scale) number h in
     let small = ltb-true _ _ g in
     record {
-      lt = subst (λ n. n < 2 ^ bits) same (omega (arith, small, doubled bits some));
+      lt = subst (λ n. n < 2 ^ bits) same (omega (arith, small, two_pow-halves bits some));
       count = size / scale;
       size_is = counted size scale e;
       value = ap (signed_value bits) (sym same) ∙ held_ahead bits (size / scale) g;
@@ -544,7 +537,7 @@ small_by : (i : Item) (partial next : PartialWord) (field : ℕ) (b : Bool) → 
     → ◌≡◌ {A = Option PartialWord} (cond b (Some (with_field i partial field)) None) (Some next) → next.value < 2 ^ 32
 unfolding with_field
 small_by i partial next field true s lt e =
-    subst (λ (k : PartialWord). k.value < 2 ^ 32) (some_is (with_field i partial field) next e)
+    subst (λ (k : PartialWord). k.value < 2 ^ 32) (same_Some (with_field i partial field) next e)
     (or_lt 32 partial.value (operands.placed i field) lt (placed_small i field s))
 small_by i partial next field false s lt e = cc
 
@@ -558,7 +551,7 @@ small_with i partial next (Some field) s lt e = small_by i partial next field (a
 taken_small : (is : List Item) (partial : PartialWord) (ts : List Token) (w : ℕ) → list_all is_sound is ≡ true → partial.value < 2 ^ 32
     → taken is partial ts ≡ Some w → w < 2 ^ 32
 unfolding taken partial_after
-taken_small [] partial [] w s lt e = subst (λ v. v < 2 ^ 32) (some_is partial.value w e) lt
+taken_small [] partial [] w s lt e = subst (λ v. v < 2 ^ 32) (same_Some partial.value w e) lt
 taken_small [] partial (t ∷ ts) w s lt e = cc
 taken_small (i ∷ is) partial [] w s lt e = cc
 taken_small (i ∷ is) partial (t ∷ ts) w s lt e =
@@ -646,7 +639,7 @@ module _ (i : Item) (w : ℕ) (it : Insn) (r : IsRowOf i w it) (zero_there : bit
   moved_by size back v None e g = cc
   moved_by size back v (Some number) e g =
       let h = held (bits_of f) (unit_by op) size number back (sound_field op has).1 e in
-      subst (IsMoved it size back) (ap (bit_or w) (sym (same_placed i f number at)) ∙ some_is (bit_or w (operands.placed i number)) v g)
+      subst (IsMoved it size back) (ap (bit_or w) (sym (same_placed i f number at)) ∙ same_Some (bit_or w (operands.placed i number)) v g)
       (moved_word number size back h)
 
   moved : (size : ℕ) (back : Bool) (v : ℕ) → with_distance i w back size ≡ Some v → IsMoved it size back v
@@ -760,7 +753,7 @@ resolves_found ts w target h meant from to v e =
     let lt = taken_small (items_of h.shape) (fixed h.shape) ts w (items_of-sound h.shape) (ltb-true _ _ fit.0) h.said in
     let rows =
     and_parts (list_all (fits_row i h.shape) SCALAR_LINES) (list_all (is_no_vector h.shape) VECTOR_LINES)
-    (when_true (is_distance i.kind) _ l.distance (all-get (fits_rows h.shape) (items_of h.shape) l.index i fit.1 l.listed)) in
+    (implied (is_distance i.kind) _ (list_all-get (fits_rows h.shape) (items_of h.shape) l.index i fit.1 l.listed) l.distance) in
     let never : Means vector w m.0 → ⊥ = never_vector h.shape ts w m.0 h.said rows.1 in
     let r = row_of h.shape i ts w m.0 h.said rows.0 (by_scalar w m.0 never ((either w m.0 lt).0 m.1)) in
     resolves_by i w m.0 r (zero_said h.shape ts w i h.said l) l.distance from to v (nat_le (counted_from i from) (counted_from i to)) refl e
@@ -776,7 +769,7 @@ far_found ts w target h from to none v m =
     let lt = taken_small (items_of h.shape) (fixed h.shape) ts w (items_of-sound h.shape) (ltb-true _ _ fit.0) h.said in
     let rows =
     and_parts (list_all (fits_row i h.shape) SCALAR_LINES) (list_all (is_no_vector h.shape) VECTOR_LINES)
-    (when_true (is_distance i.kind) _ l.distance (all-get (fits_rows h.shape) (items_of h.shape) l.index i fit.1 l.listed)) in
+    (implied (is_distance i.kind) _ (list_all-get (fits_rows h.shape) (items_of h.shape) l.index i fit.1 l.listed) l.distance) in
     let never : Means vector w m.it → ⊥ = never_vector h.shape ts w m.it h.said rows.1 in
     let r = row_of h.shape i ts w m.it h.said rows.0 (by_scalar w m.it never ((either w m.it lt).0 m.means)) in
     far_by i w m.it r (zero_said h.shape ts w i h.said l) l.distance from to v m.other none m.resolved_means m.resolves

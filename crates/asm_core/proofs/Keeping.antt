@@ -1,11 +1,10 @@
 -- What the first pass keeps of the lines of a source, as the second finds it.
 use Rattle.std.proofs.Common.{◌≡◌, ℕ, List, [], ◌∷◌, ◌++◌, drop, Option, sym, ap, ◌∙◌, subst}
-use Rattle.std.proofs.lemmas.List.{append_assoc}
+use Rattle.std.proofs.lemmas.List.{append_assoc, append-nil}
 use Rattle.asm_core.specs.declared.kept_words.KeptWord.{KeptWord}
 use Rattle.asm_core.specs.Source.{lines_of}
 use Rattle.asm_core.specs.Kept.{AreKept, IsKept, first_kept}
 use Rattle.asm_core.specs.Scanned.{AreKeptTo, HasKept}
-use Rattle.asm_core.proofs.Scanning.{append_none}
 
 -- something is kept of one more line
 pub kept_more : (source : List ℕ) (old new : List (Option KeptWord)) (rest text after : List ℕ) → AreKeptTo source old rest
@@ -18,7 +17,7 @@ kept_more source old new rest text after h split has = λ more is.
 -- this is kept of all lines
 pub kept_all : (source : List ℕ) (kept : List (Option KeptWord)) (rest : List ℕ) → AreKeptTo source kept rest
     → AreKept kept (lines_of source)
-kept_all source kept rest h = subst (λ (ks : List (Option KeptWord)). AreKept ks (lines_of source)) (append_none kept) (h [] tt)
+kept_all source kept rest h = subst (λ (ks : List (Option KeptWord)). AreKept ks (lines_of source)) (append-nil kept) (h [] tt)
 
 -- ---- one line after the other
 

@@ -1,8 +1,9 @@
 -- The first line of a text.
-use Rattle.std.proofs.Common.{◌≡◌, ℕ, suc, ◌+◌, ◌<◌, ◌≤◌, Bool, true, false, not, cond, ◌==◌, List, [], ◌∷◌, length, take, drop, Option}
+use Rattle.std.proofs.Common.{◌≡◌, ℕ, suc, ◌+◌, ◌<◌, ◌≤◌, true, false, not, cond, ◌==◌, List, [], ◌∷◌, length, take, drop, Option}
 use Rattle.std.proofs.Common.{Some, None, nat_lt, refl, sym, ap, ◌∙◌, arith}
 use Rattle.std.proofs.lemmas.Bool.Decides.{nat_tests}
-use Rattle.std.specs.List.{prefix_len, position_or_len}
+use Rattle.std.proofs.lemmas.Option.{same_Some}
+use Rattle.std.specs.List.{position_or_len}
 use Rattle.asm_core.specs.Source.{lines_of, onto_first}
 
 line_cons : (c : ℕ) (cs : List ℕ) → lines_of (c ∷ cs) ≡ cond (c == 10) ([] ∷ lines_of cs) (onto_first c (lines_of cs))
@@ -40,20 +41,10 @@ first_line (c ∷ d ∷ cs) l = line_cons c (d ∷ cs) ∙ (
 one_more : (n m : ℕ) → n ≤ m → 1 + n ≤ suc m
 one_more n m l = omega arith
 
-pub within_text : (test : ℕ → Bool) (text : List ℕ) → prefix_len test text ≤ length text
-within_text test [] = omega arith
-within_text test (c ∷ cs) = elim (test c) as (λ b. cond b (1 + prefix_len test cs) 0 ≤ suc (length cs)) [
-  | true ↦ one_more (prefix_len test cs) (length cs) (within_text test cs)
-  | false ↦ omega arith
-]
-
-some_is : (a b : ℕ) → ◌≡◌ {A = Option ℕ} (Some a) (Some b) → a ≡ b
-some_is a b e = cc
-
 -- a place that was found is the length of what stands before it
 pub found_length : (k n a : ℕ) → ◌≡◌ {A = Option ℕ} (Some a) (cond (nat_lt k n) (Some k) None) → a ≡ k
 found_length k n a e = elim (nat_lt k n) as (λ b. ◌≡◌ {A = Option ℕ} (Some a) (cond b (Some k) None) → a ≡ k) [
-  | true ↦ λ h. some_is a k h
+  | true ↦ λ h. same_Some a k h
   | false ↦ λ h. cc
 ] e
 

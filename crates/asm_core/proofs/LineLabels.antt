@@ -2,7 +2,8 @@
 use Rattle.std.proofs.Common.{◌≡◌, ◌≢◌, ℕ, map, Bool, true, false, cond, ◌||◌, List, [], ◌∷◌, ◌++◌, Option, Some, None, refl, sym, ap, ◌∙◌, subst}
 use Rattle.std.specs.Prelude.{is_some, option_map}
 use Rattle.std.specs.Str.{bytes_eq}
-use Rattle.std.proofs.lemmas.List.{append_assoc}
+use Rattle.std.proofs.lemmas.List.{append_assoc, append-nil}
+use Rattle.std.proofs.lemmas.Bool.{or_from, or_right}
 use Rattle.asm_core.specs.declared.fault.AsmFault.{AsmFault}
 use Rattle.asm_core.specs.declared.fault.AsmFault.TheVariants.{Doubled}
 use Rattle.asm_core.specs.declared.labels.Labels.{Labels}
@@ -14,7 +15,7 @@ use Rattle.asm_core.specs.Code.{NamedByte, names_said}
 use Rattle.asm_core.specs.Layout.{Label, label_named, label_position, label_past}
 use Rattle.asm_core.specs.Faults.{is_doubled}
 use Rattle.asm_core.specs.Known.{known, Knows, HaveAdded, IsDoubledBy}
-use Rattle.asm_core.proofs.Scanning.{append_none, knows_more, doubled_name}
+use Rattle.asm_core.proofs.Scanning.{knows_more, doubled_name}
 
 some_mapped : (o : Option Label) → is_some o ≡ is_some (option_map label_position o)
 some_mapped None = refl
@@ -28,7 +29,7 @@ named_known table list name knows = some_mapped (label_named list name) ∙ ap i
 
 pub added_none : (table : Labels) → HaveAdded table table []
 unfolding is_doubled
-added_none table = λ list knows. (refl, subst (Knows table) (sym (append_none list)) knows)
+added_none table = λ list knows. (refl, subst (Knows table) (sym (append-nil list)) knows)
 
 pub added_one : (table next : Labels) (l : Label) → is_some (known table l.name) ≡ false
     → ((other : List ℕ) → known next other ≡ cond (bytes_eq l.name other) (Some (label_position l)) (known table other))
@@ -48,16 +49,9 @@ or_assoc : (a b c : Bool) → (a || (b || c)) ≡ ((a || b) || c)
 or_assoc true b c = refl
 or_assoc false b c = refl
 
-or_right : (a b : Bool) → b ≡ true → (a || b) ≡ true
-or_right true b e = refl
-or_right false b e = e
-
-neither : (a b : Bool) → a ≡ false → b ≡ false → (a || b) ≡ false
-neither a b e h = rw (e, h) refl
-
 doubled_append : (list xs ys : List Label) → is_doubled list (xs ++ ys) ≡ (is_doubled list xs || is_doubled (list ++ xs) ys)
 unfolding is_doubled
-doubled_append list [] ys = ap (λ (l : List Label). is_doubled l ys) (sym (append_none list))
+doubled_append list [] ys = ap (λ (l : List Label). is_doubled l ys) (sym (append-nil list))
 doubled_append list (x ∷ xs) ys =
     let here = is_some (label_named list x.name) in
     let next = is_doubled (list ++ x ∷ []) xs in
@@ -69,7 +63,7 @@ module _ (old middle : Labels) (xs ys : List Label) where
   added_more new h g = λ list knows.
       let first = h list knows in
       let second = g (list ++ xs) first.1 in (
-        doubled_append list xs ys ∙ neither _ _ first.0 second.0,
+        doubled_append list xs ys ∙ or_from _ _ first.0 second.0,
         subst (Knows new) (append_assoc list xs ys) second.1,
       )
 

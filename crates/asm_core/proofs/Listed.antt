@@ -7,6 +7,7 @@ use Rattle.std.proofs.lemmas.List.{drop_at, drop-take, take-take}
 use Rattle.byteorder.specs.Numbers.{length-bytes_low_first}
 use Rattle.std.specs.List.{filter_map, cons_option, range_with_len, list_all}
 use Rattle.std.proofs.lemmas.Bool.Decides.{nat_tests}
+use Rattle.std.proofs.lemmas.Option.{same_Some}
 use Rattle.byteorder.specs.Endian.{little_bytes}
 use Rattle.sm_types.specs.declared.object.Object.{Object}
 use Rattle.sm_types.specs.declared.object.Section.{Section}
@@ -60,9 +61,6 @@ nothing_said : said_lines [] ≡ []
 unfolding said_lines
 nothing_said = refl
 
-some_line : (a b : SourceLine) → ◌≡◌ {A = Option SourceLine} (Some a) (Some b) → a ≡ b
-some_line a b e = cc
-
 faulty : (n : ℕ) (p : LocationCounter) (list : List Label) (fault : LineFault) → line_fault n p list (Err fault) ≡ None → ⊥
 unfolding line_fault
 faulty n p list fault e = cc
@@ -78,7 +76,7 @@ aligned_cons : (texts : List (List ℕ)) (n : ℕ) (p : LocationCounter) (list :
     → (k : ℕ) (line : SourceLine) → slice_get (first ∷ said_lines texts) k ≡ Some line
     → misaligned line.says (here (counter_past p (take k (first ∷ said_lines texts)))) ≡ None
 aligned_cons texts n p list first sound later zero line at =
-    subst (λ (l : SourceLine). misaligned l.says (here (counter_past p [])) ≡ None) (some_line first line at)
+    subst (λ (l : SourceLine). misaligned l.says (here (counter_past p [])) ≡ None) (same_Some first line at)
     (subst (λ (q : LocationCounter). misaligned first.says (here q) ≡ None) (sym (past_none p)) (no_column n p list first sound))
 aligned_cons texts n p list first sound later (suc k) line at =
     subst (λ (q : LocationCounter). misaligned line.says (here q) ≡ None) (sym (past_cons p first (take k (said_lines texts))))

@@ -1,9 +1,10 @@
 -- What the mapping symbols of a source's lines say of each byte of its text: whether an instruction put it.
-use Rattle.std.proofs.Common.{◌≡◌, ℕ, suc, ◌+◌, ◌<◌, ◌≤◌, ◌⊎◌, inl, inr, Bool, true, false, not, cond, ◌&&◌, List, [], ◌∷◌, ◌++◌, take, map}
-use Rattle.std.proofs.Common.{Option, Some, None, nat_lt, nat_le, refl, sym, ap, ap₂, ◌∙◌, subst, arith}
+use Rattle.std.proofs.Common.{◌≡◌, ℕ, suc, ◌+◌, ◌<◌, ◌≤◌, inl, inr, Bool, true, false, not, cond, ◌&&◌, List, [], ◌∷◌, ◌++◌, take, map}
+use Rattle.std.proofs.Common.{Option, Some, None, nat_lt, refl, sym, ap, ap₂, ◌∙◌, subst, arith}
 use Rattle.std.specs.Prelude.{slice_get, is_none}
 use Rattle.std.specs.List.{filter_map, cons_option}
 use Rattle.std.proofs.lemmas.Bool.Decides.{nat_tests}
+use Rattle.std.proofs.lemmas.Bool.{cases_lt, le-leb, lt-leb}
 use Rattle.sm_types.specs.declared.object.Section.{Section}
 use Rattle.sm_types.specs.declared.object.Section.TheVariants.{Text, Data}
 use Rattle.sm_types.specs.declared.object.Symbol.{Symbol}
@@ -171,16 +172,10 @@ unfilled p says e = unfilled_in p.part p (size_of says (here p)) e
 
 -- ---- which mapping symbol governs
 
-above_no : (m a : ℕ) → a < m → nat_le m a ≡ false
-above_no m a l = grind (arith, nat_tests)
-
-below_yes : (m a : ℕ) → m ≤ a → nat_le m a ≡ true
-below_yes m a l = grind (arith, nat_tests)
-
 -- a mapping symbol past an address says nothing of it
 passed_over : (a : ℕ) (best : Option Mapping) (m : Mapping) → a < m.address → later_mapping a best m ≡ best
-passed_over a None m l = rw (above_no m.address a l) refl
-passed_over a (Some b) m l = rw (above_no m.address a l) refl
+passed_over a None m l = rw (lt-leb m.address a l) refl
+passed_over a (Some b) m l = rw (lt-leb m.address a l) refl
 
 over_mapping : (a : ℕ) (best : Option Mapping) (b : Bool) (address : ℕ) (c : Content) (rest : List Mapping) → a < address
     → governing_mapping a best (mapping_if b address c ++ rest) ≡ governing_mapping a best rest
@@ -218,10 +213,10 @@ same_content (Some content.Data) content.Data e = refl
 taken_mapping : (a address : ℕ) (c : Content) (before : Option Content) (best : Option Mapping) → Agrees before best address → address ≤ a
     → later_mapping a best (mapping_to address c) ≡ Some (mapping_to address c)
 taken_mapping a address c None best h l =
-    ap (λ o. later_mapping a o (mapping_to address c)) h ∙ rw (below_yes address a l) refl
+    ap (λ o. later_mapping a o (mapping_to address c)) h ∙ rw (le-leb address a l) refl
 taken_mapping a address c (Some was) best h l =
     ap (λ o. later_mapping a o (mapping_to address c)) h.1
-    ∙ rw (below_yes address a l, below_yes h.0.address address h.3) refl
+    ∙ rw (le-leb address a l, le-leb h.0.address address h.3) refl
 
 -- the mapping symbol that governs once a line has filled the text agrees with it
 record Mapped (a : ℕ) (best : Option Mapping) (mappings rest : List Mapping) (c : Content) (limit : ℕ) : Type 0 where
@@ -292,9 +287,6 @@ pub record Told (p : LocationCounter) (before : Option Content) (best : Option M
   pub kind : is_code (mapping_says (governing_mapping (text_address + offset) best (mappings_from p before lines)))
       ≡ puts_code put.line.says
 
-low_or : (a b : ℕ) → (a < b) ⊎ (b ≤ a)
-low_or a b = grind arith
-
 text_is-filled : (p : LocationCounter) (says : Says) (before : Option Content) → fills_text p says ≡ true
     → text_is p says before ≡ Some (content_of says)
 unfolding text_is
@@ -341,7 +333,7 @@ told (line ∷ lines) p before best offset h from to =
           ++ mappings_from next (text_is-filled p line.says before e i) lines) in
           let governs : governing_mapping a best (mappings_from p before (line ∷ lines)) ≡ governing_mapping a m.now rest =
           ap (governing_mapping a best) mappings ∙ m.governs in
-          elim (low_or offset next.text_size) [
+          elim (cases_lt offset next.text_size) [
             | inl here_put ↦
                 let over : governing_mapping a m.now rest ≡ m.now = later_mappings lines next (Some c) m.now a (omega arith) in
                 record {

@@ -1,6 +1,6 @@
 -- Whether a line fits into its part.
-use Rattle.std.proofs.Common.{◌≡◌, ℕ, ◌+◌, ◌<◌, ◌≤◌, Bool, true, false, ◌||◌, nat_lt, refl, ap, ◌∙◌, arith}
-use Rattle.std.proofs.lemmas.Bool.Decides.{nat_tests}
+use Rattle.std.proofs.Common.{◌≡◌, ℕ, ◌+◌, ◌<◌, ◌≤◌, true, false, ◌||◌, nat_lt, ap, ◌∙◌}
+use Rattle.std.proofs.lemmas.Bool.{or_from, or_right, or_left, le-ltb, lt-ltb}
 use Rattle.sm_types.specs.declared.object.Section.{Section}
 use Rattle.sm_types.specs.declared.object.Section.TheVariants.{Text, Data}
 use Rattle.asm_parser.specs.Statements.{Says}
@@ -9,26 +9,10 @@ use Rattle.asm_core.specs.Layout.{here_in, here, grown_in, size_of, part_after, 
 use Rattle.asm_core.specs.Limits.{IsInLimits}
 use Rattle.asm_core.specs.Faults.{is_too_large}
 
-above : (m n : ℕ) → m < n → nat_lt m n ≡ true
-above m n l = grind (arith, nat_tests)
-
-within : (m n : ℕ) → n ≤ m → nat_lt m n ≡ false
-within m n l = grind (arith, nat_tests)
-
-or_left : (a b : Bool) → a ≡ true → (a || b) ≡ true
-or_left a b e = rw e refl
-
-or_right : (a b : Bool) → b ≡ true → (a || b) ≡ true
-or_right true b e = refl
-or_right false b e = e
-
-neither : (a b : Bool) → a ≡ false → b ≡ false → (a || b) ≡ false
-neither a b e h = rw (e, h) refl
-
 large_in : (part : Section) (p : LocationCounter) (size : ℕ) → 4194304 < here_in part p + size
     → (nat_lt 4194304 (grown_in part p size).text_size || nat_lt 4194304 (grown_in part p size).data_size) ≡ true
-large_in Text p size l = or_left _ _ (above 4194304 (p.text_size + size) l)
-large_in Data p size l = or_right (nat_lt 4194304 p.text_size) _ (above 4194304 (p.data_size + size) l)
+large_in Text p size l = or_left _ _ (lt-ltb 4194304 (p.text_size + size) l)
+large_in Data p size l = or_right (nat_lt 4194304 p.text_size) _ (lt-ltb 4194304 (p.data_size + size) l)
 
 fits_in : (part : Section) (p : LocationCounter) (size : ℕ) → IsInLimits p → here_in part p + size ≤ 4194304
     → IsInLimits (grown_in part p size)
@@ -47,7 +31,7 @@ in_limits p says h l = let g = fits_in p.part p (size_of says (here p)) h l in r
 pub not_too_large : (p : LocationCounter) (says : Says) → IsInLimits (counter_after p says) → is_too_large p says ≡ false
 unfolding is_too_large
 not_too_large p says h =
-    neither _ _ (within 4194304 (counter_after p says).text_size h.text) (within 4194304 (counter_after p says).data_size h.data_part)
+    or_from _ _ (le-ltb 4194304 (counter_after p says).text_size h.text) (le-ltb 4194304 (counter_after p says).data_size h.data_part)
 
 -- a place that has grown by a line's bytes, with the part that the line leaves
 pub grown_counter : (p after : LocationCounter) (says : Says) (size : ℕ) (part : Section) → size ≡ size_of says (here p)

@@ -1,8 +1,9 @@
 -- Bytes that are put after others: they stand there, and those before stay.
-use Rattle.std.proofs.Common.{◌≡◌, ℕ, zero, suc, ◌+◌, ◌*◌, ◌<◌, Bool, true, false, ◌||◌, get_or, List, [], ◌∷◌, ◌++◌, length, take, drop, map}
+use Rattle.std.proofs.Common.{◌≡◌, ℕ, zero, suc, ◌+◌, ◌*◌, ◌<◌, Bool, true, false, get_or, List, [], ◌∷◌, ◌++◌, length, take, drop, map}
 use Rattle.std.proofs.Common.{replicate, refl, sym, ap, ◌∙◌, subst, arith, length-append, append_assoc, min, Option}
 use Rattle.std.proofs.lemmas.List.{length-take, length-replicate, length-map, take_all, drop_at, take-append-le, append-nil, map-append}
 use Rattle.std.proofs.lemmas.List.Folds.{list_any-append}
+use Rattle.std.proofs.lemmas.Bool.{or_right}
 use Rattle.std.specs.List.{list_any}
 use Rattle.byteorder.specs.Endian.{little_bytes}
 use Rattle.byteorder.specs.Numbers.{length-bytes_low_first}
@@ -186,10 +187,6 @@ numbers_more width start old new ns all n before step grown =
     ∙ ap (λ x. start ++ x) (sym (numbers_push width ns n) ∙ ap (numbers_bytes width) (sym grown))
 
 -- ---- tests of values, one after the other
-
-or_right : (a b : Bool) → b ≡ true → (a || b) ≡ true
-or_right true b e = refl
-or_right false b e = e
 
 pub none_more : {X : Type 0} (test : X → Bool) (xs all : List X) (x : X) → list_any test xs ≡ false → test x ≡ false → all ≡ xs ++ x ∷ []
     → list_any test all ≡ false

@@ -3,7 +3,7 @@ use Rattle.std.proofs.Common.{◌≡◌, ℕ, ◌+◌, ◌<◌, ◌≤◌, ◌�
 use Rattle.std.proofs.Common.{refl, sym, ap, ◌∙◌, subst, arith}
 use Rattle.std.specs.Prelude.{option_map, is_some}
 use Rattle.std.specs.Str.{bytes_eq}
-use Rattle.std.proofs.lemmas.List.{append_assoc}
+use Rattle.std.proofs.lemmas.List.{append_assoc, append-nil}
 use Rattle.std.proofs.lemmas.Slice.Eq.{bytes_eq-Decides}
 use Rattle.asm_parser.specs.declared.line.LineFault.{LineFault}
 use Rattle.asm_parser.specs.Statements.{SourceLine}
@@ -15,6 +15,7 @@ use Rattle.asm_core.specs.declared.location_counter.LocationCounter.{LocationCou
 use Rattle.asm_core.specs.Source.{lines_of, said_lines}
 use Rattle.asm_core.specs.Layout.{first_counter, Label, labels_at, label_named, label_position, labels_of, labels_from, counter_after, counter_past}
 use Rattle.std.specs.Option.{option_or as or_else}
+use Rattle.plain_lemmas.proofs.Options.{is_some-false}
 use Rattle.asm_core.specs.Faults.{after_line, line_fault, lines_fault, labels_after}
 use Rattle.asm_core.specs.Known.{known, Knows}
 use Rattle.asm_core.specs.Scanned.{fault_at, Passes, IsScannedTo}
@@ -50,10 +51,6 @@ named_last (a ∷ ls) l name =
     named_cons a (ls ++ l ∷ []) name ∙ ap (λ o. cond (bytes_eq a.name name) (Some a) o) (named_last ls l name)
     ∙ or_last-cond (bytes_eq a.name name) a l (label_named ls name) name ∙ ap (λ o. or_last o l name) (sym (named_cons a ls name))
 
-no_some : (o : Option Label) → is_some o ≡ false → o ≡ None
-no_some None e = refl
-no_some (Some l) e = cc
-
 placed_last : (o : Option Label) (l : Label) (name : List ℕ) (b : Bool) → bytes_eq l.name name ≡ b → (b ≡ true → o ≡ None)
     → option_map label_position (or_last o l name) ≡ cond b (Some (label_position l)) (option_map label_position o)
 placed_last None l name true e h = rw e refl
@@ -72,10 +69,6 @@ knows_more table next list l h new told = record {
       (λ same. ap (label_named list) (sym ((bytes_eq-Decides l.name name).0 same)) ∙ new))
       ∙ sym (ap (option_map label_position) (named_last list l name));
 }
-
-pub append_none : {A : Type 0} (xs : List A) → xs ++ [] ≡ xs
-append_none [] = refl
-append_none (x ∷ xs) = ap (λ ys. x ∷ ys) (append_none xs)
 
 -- ---- one more line
 
@@ -189,7 +182,7 @@ module _ (source : List ℕ) (n : ℕ) (p : LocationCounter) (table : Labels) (r
   pub all_known : Knows table (labels_of (said_lines (lines_of source)))
   all_known =
       subst (Knows table) (sym (h.labels ∙ ap (λ (ls : List SourceLine). h.list ++ labels_from p ls) nothing_left
-      ∙ ap (λ (ls : List Label). h.list ++ ls) (no_labels p) ∙ append_none h.list)) h.knows
+      ∙ ap (λ (ls : List Label). h.list ++ ls) (no_labels p) ∙ append-nil h.list)) h.knows
 
   pub all_placed : p ≡ counter_past first_counter (said_lines (lines_of source))
   all_placed = sym (h.counter ∙ ap (counter_past p) nothing_left ∙ no_counter p)
@@ -211,4 +204,4 @@ read_fault n p list text (line.BadNumber column) h ne = unread n p list text (li
 read_fault n p list text (line.Extra column) h ne = unread n p list text (line.Extra column) (h (λ e. cc))
 
 pub doubled_name : (list : List Label) (name : List ℕ) → is_some (label_named list name) ≡ false → label_named list name ≡ None
-doubled_name list name e = no_some (label_named list name) e
+doubled_name list name e = is_some-false (label_named list name) e

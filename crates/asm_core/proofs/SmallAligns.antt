@@ -1,6 +1,8 @@
 -- A line of the grammar aligns to 2 ^ 12 at most.
-use Rattle.std.proofs.Common.{◌≡◌, ℕ, ◌-◌, ◌^◌, ◌≤◌, Bool, true, false, cond, List, [], ◌∷◌, Option, Some, None, Result, Ok, nat_le, refl}
+use Rattle.std.proofs.Common.{◌≡◌, ℕ, ◌-◌, ◌^◌, ◌≤◌, Bool, true, false, cond, List, [], ◌∷◌, Option, Some, None, Ok, nat_le, refl}
 use Rattle.std.proofs.Common.{subst, leb-true}
+use Rattle.std.proofs.lemmas.Option.{same_Some}
+use Rattle.plain_lemmas.proofs.Options.{same_Ok}
 use Rattle.insn_text.specs.declared.keywords.TheConstants.{MNEMONICS}
 use Rattle.asm_tokens.specs.declared.token.Token.{Token}
 use Rattle.asm_tokens.specs.declared.token.Token.TheVariants.{Bare}
@@ -10,7 +12,6 @@ use Rattle.asm_tokens.specs.Tokens.{index_in, is_name}
 use Rattle.asm_operands.specs.declared.fault.FaultKind.TheVariants.{Extra}
 use Rattle.asm_operands.specs.Operands.{OperandsSaid, operands_said}
 use Rattle.asm_operands.specs.Operands as operands
-use Rattle.asm_parser.specs.declared.line.LineFault.{LineFault}
 use Rattle.asm_parser.specs.Statements.{Says, IntoText, IntoData, Quads, Words, Bytes, Zeros, Aligns, Globals, Codes, SupportRoutines, CallTail, SourceLine}
 use Rattle.asm_parser.specs.Lines.{Answer, Tells, Stops, and_then, further, ends, no_number, number_up_to, number_then_end, one_number}
 use Rattle.asm_parser.specs.Lines.{one_name, values_from, quad_value, number_value, Directive, TextDirective, DataDirective, QuadDirective}
@@ -37,11 +38,8 @@ unfolding ends
 ends_told P a [] h = h
 ends_told P a (l ∷ ls) h = tt
 
-some_is : (a b : ℕ) → ◌≡◌ {A = Option ℕ} (Some a) (Some b) → a ≡ b
-some_is a b e = cc
-
 up_to : (most n m : ℕ) (b : Bool) → nat_le n most ≡ b → cond b (Some n) None ≡ Some m → m ≤ most
-up_to most n m true e h = subst (λ k. k ≤ most) (some_is n m h) (leb-true n most e)
+up_to most n m true e h = subst (λ k. k ≤ most) (same_Some n m h) (leb-true n most e)
 up_to most n m false e h = cc
 
 number_small : (most : ℕ) (t : Token) (m : ℕ) → number_up_to most t ≡ Some m → m ≤ most
@@ -104,12 +102,9 @@ tokens_told line (l ∷ ls) =
       | false ↦ tt
     ]
 
-same_line : (a b : SourceLine) → ◌≡◌ {A = Result SourceLine LineFault} (Ok a) (Ok b) → a ≡ b
-same_line a b e = cc
-
 answer_told : (text : List ℕ) (label : Option (List ℕ)) (ls : List Lexeme) (a : Answer Says) (line : SourceLine) → Told HasSmallAlign a
     → line_answer text label ls a ≡ Ok line → HasSmallAlign line.says
-answer_told text label ls (Tells says) line h e = subst (λ (l : SourceLine). HasSmallAlign l.says) (same_line _ line e) h
+answer_told text label ls (Tells says) line h e = subst (λ (l : SourceLine). HasSmallAlign l.says) (same_Ok _ line e) h
 answer_told text label ls (Stops index kind) line h e = cc
 
 pub small_align : (text : List ℕ) (line : SourceLine) → line_of text ≡ Ok line → HasSmallAlign line.says

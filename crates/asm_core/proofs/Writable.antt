@@ -2,8 +2,9 @@
 use Rattle.sm_types.specs.Objects.{text_address}
 use Rattle.std.proofs.Common.{◌≡◌, ℕ, ◌+◌, ◌%◌, ◌<◌, ◌≤◌, Bool, true, false, cond, ◌==◌, ◌&&◌, nat_lt, List, [], Option, Some, None, refl}
 use Rattle.std.proofs.Common.{sym, subst, arith}
-use Rattle.std.proofs.lemmas.Bool.{and_parts}
+use Rattle.std.proofs.lemmas.Bool.{and_parts, ltb-true}
 use Rattle.std.proofs.lemmas.Bool.Decides.{nat_tests}
+use Rattle.std.proofs.lemmas.Option.{same_Some}
 use Rattle.sm_types.specs.declared.object.Object.{Object}
 use Rattle.sm_types.specs.declared.object.Section.{Section}
 use Rattle.sm_types.specs.declared.object.Section.TheVariants.{Text, Data}
@@ -23,14 +24,8 @@ record Starts (size entry : ℕ) : Type 0 where
   from : text_address ≤ entry
   before : entry < text_address + size
 
-some_is : (a b : ℕ) → ◌≡◌ {A = Option ℕ} (Some a) (Some b) → a ≡ b
-some_is a b e = cc
-
 is_multiple : (n : ℕ) → (n % 4 == 0) ≡ true → n % 4 ≡ 0
 is_multiple n e = grind (arith, nat_tests)
-
-is_below : (m n : ℕ) → nat_lt m n ≡ true → m < n
-is_below m n e = grind (arith, nat_tests)
 
 starts_there : (size offset : ℕ) → offset % 4 ≡ 0 → offset < size → Starts size (text_address + offset)
 starts_there size offset e l = record { aligned = omega arith; from = omega arith; before = omega arith }
@@ -39,8 +34,8 @@ starts_if : (size offset entry : ℕ) (b : Bool) → (offset % 4 == 0 && nat_lt 
     → cond b (Some (text_address + offset)) None ≡ Some entry → Starts size entry
 starts_if size offset entry true is e =
     let p = and_parts (offset % 4 == 0) (nat_lt offset size) is in
-    subst (Starts size) (some_is (text_address + offset) entry e)
-    (starts_there size offset (is_multiple offset p.0) (is_below offset size p.1))
+    subst (Starts size) (same_Some (text_address + offset) entry e)
+    (starts_there size offset (is_multiple offset p.0) (ltb-true offset size p.1))
 starts_if size offset entry false is e = cc
 
 starts_in : (size : ℕ) (part : Section) (offset entry : ℕ) → start_in size part offset ≡ Some entry → Starts size entry

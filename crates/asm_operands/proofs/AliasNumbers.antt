@@ -1,10 +1,12 @@
 -- What an alias says is the number that it is written with.
-use Rattle.std.proofs.Common.{◌≡◌, ℕ, ◌+◌, ◌-◌, ◌*◌, ◌/◌, ◌%◌, ◌^◌, ◌<◌, ◌==◌, Bool, true, false, nat_lt, nat_le, cond, List, [], ◌∷◌}
+use Rattle.std.proofs.Common.{◌≡◌, ℕ, ◌+◌, ◌-◌, ◌*◌, ◌/◌, ◌%◌, ◌^◌, ◌<◌, ◌==◌, Bool, true, false, nat_lt, nat_le, cond, []}
 use Rattle.std.proofs.Common.{Option, Some, None, refl, sym, ap, ap₂, ◌∙◌, subst, arith, eqb-true, ltb-true}
 use Rattle.std.specs.Prelude.{option_map, option_and_then}
 use Rattle.std.specs.List.{find, range_with_len}
 use Rattle.std.proofs.lemmas.Bool.{and_parts}
 use Rattle.std.proofs.lemmas.Nat.{shr_split, mod_below, pow_pos}
+use Rattle.std.proofs.lemmas.Option.{same_Some}
+use Rattle.plain_lemmas.proofs.Lists.{find-passes}
 use Rattle.bit_ops.specs.Bits.{width_of}
 use Rattle.bit_ops.specs.Masks.{are_mask_fields}
 use Rattle.insn_forms.specs.Fields.{field_of}
@@ -14,16 +16,6 @@ use Rattle.asm_tokens.specs.declared.token.Token.TheVariants.{Number}
 use Rattle.asm_operands.specs.Aliases.{halfword_number, IsShiftLeft}
 use Rattle.asm_operands.specs.Fields.{on_number, is_that, is_field_of, mask_field, immediate_of, shift_bits, shift_left_field}
 use Rattle.asm_operands.specs.Fields.{is_halfword_at, halfword_field, inverted_if, field_said}
-
-some_is : {A : Type 0} (a b : A) → ◌≡◌ {A = Option A} (Some a) (Some b) → a ≡ b
-some_is a b e = cc
-
-passes : (p : ℕ → Bool) (xs : List ℕ) (x : ℕ) → find p xs ≡ Some x → p x ≡ true
-passes p [] x e = cc
-passes p (y ∷ ys) x e = elim (p y) as (λ b. p y ≡ b → cond b (Some y) (find p ys) ≡ Some x → p x ≡ true) [
-  | true ↦ λ is h. ap p (sym (some_is y x h)) ∙ is
-  | false ↦ λ is h. passes p ys x h
-] refl e
 
 -- ---- halfwords
 
@@ -44,13 +36,13 @@ at_index n index field e f =
 found_at : (n field : ℕ) (o : Option ℕ) → ((index : ℕ) → o ≡ Some index → is_halfword_at n index ≡ true)
     → option_map (λ index. index * 65536 + n / 2 ^ (16 * index)) o ≡ Some field → halfword_number field ≡ n
 found_at n field None h e = cc
-found_at n field (Some index) h e = at_index n index field (h index refl) (some_is _ field e)
+found_at n field (Some index) h e = at_index n index field (h index refl) (same_Some _ field e)
 
 halfword-is : (wide : Bool) (n field : ℕ) → halfword_field wide n ≡ Some field → halfword_number field ≡ n
 unfolding halfword_field
 halfword-is wide n field e =
     found_at n field (find (is_halfword_at n) (range_with_len 0 (width_of wide / 16)))
-    (λ index f. passes (is_halfword_at n) (range_with_len 0 (width_of wide / 16)) index f) e
+    (λ index f. find-passes (is_halfword_at n) (range_with_len 0 (width_of wide / 16)) index f) e
 
 pub halfword : (wide negative : Bool) (bits size number field : ℕ) → immediate_of wide negative size ≡ Some number
     → field_said (kind.Halfword wide false) bits (Number negative size) ≡ Some field → halfword_number field ≡ number
@@ -64,14 +56,14 @@ unfolding immediate_of
 below wide true size number e =
     elim (nat_le size (2 ^ (width_of wide - 1))) as (λ b. cond b (Some ((2 ^ width_of wide - size) % 2 ^ width_of wide)) None ≡ Some number
     → number < 2 ^ width_of wide) [
-      | true ↦ λ h. subst (λ n. n < 2 ^ width_of wide) (some_is _ number h)
+      | true ↦ λ h. subst (λ n. n < 2 ^ width_of wide) (same_Some _ number h)
           (mod_below (2 ^ width_of wide - size) (2 ^ width_of wide) (pow_pos (width_of wide)))
       | false ↦ λ h. cc
     ] e
 below wide false size number e =
     elim (nat_lt size (2 ^ width_of wide)) as (λ b. nat_lt size (2 ^ width_of wide) ≡ b → cond b (Some size) None ≡ Some number
     → number < 2 ^ width_of wide) [
-      | true ↦ λ is h. subst (λ n. n < 2 ^ width_of wide) (some_is size number h) (ltb-true _ _ is)
+      | true ↦ λ is h. subst (λ n. n < 2 ^ width_of wide) (same_Some size number h) (ltb-true _ _ is)
       | false ↦ λ is h. cc
     ] refl e
 
@@ -100,7 +92,7 @@ unfolding field_said on_number mask_field is_field_of
 mask wide negative bits size number field e f =
     let found = sym (ap (option_and_then (mask_field wide)) e) ∙ f in
     that number (mask_in wide field) (and_parts (are_mask_fields (field_of field 12 1 == 1) (field_of field 0 6) (field_of field 6 6) wide)
-    _ (passes (is_field_of wide number) (range_with_len 0 8192) field found)).1
+    _ (find-passes (is_field_of wide number) (range_with_len 0 8192) field found)).1
 
 -- ---- shifts
 
@@ -114,8 +106,8 @@ shift_if : (wide b : Bool) (size field : ℕ) → nat_lt size (width_of wide) �
     → cond b (Some ((width_of wide - size) % width_of wide * 2 ^ shift_bits wide + (width_of wide - 1 - size))) None ≡ Some field
     → IsShiftLeft wide size field
 shift_if wide false size field is e = cc
-shift_if true true size field is e = wide_shift size field (ltb-true _ _ is) (some_is _ field e)
-shift_if false true size field is e = narrow_shift size field (ltb-true _ _ is) (some_is _ field e)
+shift_if true true size field is e = wide_shift size field (ltb-true _ _ is) (same_Some _ field e)
+shift_if false true size field is e = narrow_shift size field (ltb-true _ _ is) (same_Some _ field e)
 
 pub shift : (wide negative : Bool) (bits size field : ℕ) → field_said (kind.ShiftLeft wide) bits (Number negative size) ≡ Some field
     → IsShiftLeft wide size field

@@ -4,7 +4,8 @@ use Rattle.std.proofs.Common.{nat_lt, nat_le}
 use Rattle.std.proofs.Common.{Option, Some, None, cond, refl, sym, ap, ap₂, ◌∙◌, arith, eqb-true, ltb-true, leb-true, slice_get}
 use Rattle.std.specs.Prelude.{option_map, bit_xor}
 use Rattle.std.specs.List.{list_all}
-use Rattle.std.proofs.lemmas.Bool.{and_parts}
+use Rattle.std.proofs.lemmas.Bool.{and_parts, not-true}
+use Rattle.plain_lemmas.proofs.Lists.{list_all-get}
 use Rattle.insn_forms.specs.Fields.{is_field}
 use Rattle.insn_text.specs.declared.item.RegisterFile.TheVariants.{X, W}
 use Rattle.insn_text.specs.declared.item.VectorFile.{VectorFile}
@@ -24,7 +25,6 @@ use Rattle.asm_operands.specs.Fields.{slice_field}
 use Rattle.asm_operands.specs.Fields.{same_vector_file, sized_field, index_field, descending_field, unsigned_field, field_said}
 use Rattle.asm_operands.specs.Sound.{has_factor, is_sound}
 use Rattle.asm_operands.proofs.Tables.{items_of-sound}
-use Rattle.asm_operands.proofs.AnyDistance.{all_at}
 
 -- the token of an operand without a field
 unfoldable own_token : Kind → Token
@@ -42,10 +42,6 @@ own_token other = Other
 holds : (b : Bool) (x m : ℕ) → ◌≡◌ {A = Option ℕ} (cond b (Some x) None) (Some m) → b ≡ true
 holds true x m e = refl
 holds false x m e = cc
-
-not_true : (b : Bool) → not b ≡ true → b ≡ false
-not_true true e = cc
-not_true false e = refl
 
 -- ---- words and marks
 
@@ -88,7 +84,7 @@ only_unsigned base scale most negative n k positive few e =
     let zero : (n - base) / scale ≡ 0 = omega arith in
     let parts : scale * ((n - base) / scale) + (n - base) % scale ≡ n - base = omega arith in
     let nothing : n - base ≡ 0 = sym parts ∙ ap₂ (λ a b. scale * a + b) zero whole ∙ omega arith in
-    (not_true negative r.0, omega arith)
+    (not-true negative r.0, omega arith)
 
 only_descending : (from : ℕ) (negative : Bool) (n k : ℕ) → from ≤ 1 → descending_field from 0 negative n ≡ Some k
     → (negative ≡ false) × (n ≡ from)
@@ -100,7 +96,7 @@ only_descending from negative n k few e =
     let r = and_parts (not negative) (nat_lt 0 n) q.0 in
     let some = ltb-true 0 n r.1 in
     let within = leb-true n from q.1 in
-    (not_true negative r.0, omega arith)
+    (not-true negative r.0, omega arith)
 
 -- ---- registers
 
@@ -216,8 +212,8 @@ pub bare-alone : list_all have_room SHAPES ≡ true → (at index : ℕ) (s : Sh
 unfolding have_room is_sound
 bare-alone all at index s i t u m n listed here bare e f =
     let room : has_room i.kind (bits_of i) ≡ true =
-    all_at (λ (j : Item). has_room j.kind (bits_of j)) (items_of s) index i (all_at have_room SHAPES at s all listed) here in
-    let sound = all_at is_sound (items_of s) index i (items_of-sound s) here in
+    list_all-get (λ (j : Item). has_room j.kind (bits_of j)) (items_of s) index i (list_all-get have_room SHAPES at s all listed) here in
+    let sound = list_all-get is_sound (items_of s) index i (items_of-sound s) here in
     let factor : has_factor i.kind (bits_of i) ≡ true = (and_parts (has_factor i.kind (bits_of i)) (is_field i.field) sound).0 in
     let r : has_room i.kind 0 ≡ true = ap (has_room i.kind) (sym bare) ∙ room in
     let g : has_factor i.kind 0 ≡ true = ap (has_factor i.kind) (sym bare) ∙ factor in

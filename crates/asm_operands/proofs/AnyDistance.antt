@@ -1,14 +1,17 @@
 -- A word whose target is named means an instruction with each distance that its operand can hold.
-use Rattle.std.proofs.Common.{◌≡◌, ℕ, zero, suc, ◌+◌, ◌-◌, ◌*◌, ◌/◌, ◌%◌, ◌^◌, ◌<◌, ◌==◌, ◌&&◌, ◌||◌, not, Bool, true, false, cond, bit_and}
+use Rattle.std.proofs.Common.{◌≡◌, ℕ, ◌+◌, ◌-◌, ◌*◌, ◌/◌, ◌%◌, ◌^◌, ◌<◌, ◌==◌, ◌&&◌, ◌||◌, not, Bool, true, false, cond, bit_and}
 use Rattle.std.proofs.Common.{min, max, List, [], ◌∷◌, length, take, drop, slice_get, Option, Some, None, refl, sym, ap, ap₂, ◌∙◌, subst}
 use Rattle.std.proofs.Common.{arith, eqb-true, eq-eqb, inl, inr}
 use Rattle.std.specs.Prelude.{bit_or, is_some, option_map, option_and_then, slice_index}
 use Rattle.std.specs.Option.{option_or}
 use Rattle.std.specs.Int.{bit_at}
 use Rattle.std.specs.List.{list_all}
-use Rattle.std.proofs.lemmas.Bool.{and_parts, cases_Bool}
+use Rattle.std.proofs.lemmas.Bool.{and_parts, cases_Bool, and_from}
 use Rattle.std.proofs.lemmas.Nat.{or_disjoint, shl-shr}
 use Rattle.std.proofs.lemmas.Nat.Bits.{bit_at_and, bit_at_or, bit_at-lt, bit_at-zero, same_from_bits}
+use Rattle.std.proofs.lemmas.Option.{same_Some}
+use Rattle.plain_lemmas.proofs.Tests.{implied, not_both}
+use Rattle.plain_lemmas.proofs.Lists.{list_all-get, list_all-drop, list_all-take}
 use Rattle.insn_forms.specs.declared.field.Field.{Field}
 use Rattle.insn_forms.specs.declared.line.Line.{Line}
 use Rattle.insn_forms.specs.Tables.{Means, meaning_in, meaning_by, stands_for}
@@ -37,14 +40,11 @@ use Rattle.asm_operands.specs.Operands.{word_in, shapes_of, first_of_words, firs
 use Rattle.asm_operands.specs.Operands.{target_of, if_meant, word_said, operand_fault, OperandsSaid, Says, Fails, said_or, operands_said}
 use Rattle.asm_operands.specs.Distances.{with_distance}
 use Rattle.asm_operands.specs.Sound.{is_sound}
-use Rattle.asm_operands.proofs.Tables.{all-take, all-drop, items_of-sound}
+use Rattle.asm_operands.proofs.Tables.{items_of-sound}
 use Rattle.insn_forms.proofs.Bits.{field_masked}
 use Rattle.asm_operands.proofs.WordBits.{and_swap, upper_mask, lower_mask}
 
 -- ---- the word of a shape has the bits that the shape fixes
-
-some_is : {A : Type 0} (a b : A) → ◌≡◌ {A = Option A} (Some a) (Some b) → a ≡ b
-some_is a b e = cc
 
 kept_bit : (w a k p o : ℕ) → w < 2 → a < 2 → k < 2 → p < 2 → o < 2 → min a o ≡ min p k → min w (max k o) ≡ min (max a p) (max k o)
     → min w k ≡ min a k
@@ -71,7 +71,7 @@ kept_by : (i : Item) (partial next : PartialWord) (field w : ℕ) (b : Bool) →
     → ◌≡◌ {A = Option PartialWord} (cond b (Some (with_field i partial field)) None) (Some next) → Keeps w next → Keeps w partial
 unfolding agrees with_field
 kept_by i partial next field w true a e h =
-    let same = some_is (with_field i partial field) next e in
+    let same = same_Some (with_field i partial field) next e in
     let parts = and_parts (bit_and partial.value (mask_of i) == bit_and (placed i field) partial.mask) _ a in
     bits_kept w partial.value partial.mask (placed i field) (mask_of i) (eqb-true _ _ parts.0)
     (subst (λ (k : PartialWord). Keeps w k) (sym same) h)
@@ -90,7 +90,7 @@ kept_after i partial next t w e h = kept_with i partial next (field_said i.kind 
 
 taken_kept : (is : List Item) (partial : PartialWord) (ts : List Token) (w : ℕ) → taken is partial ts ≡ Some w → Keeps w partial
 unfolding taken
-taken_kept [] partial [] w e = ap (λ v. bit_and v partial.mask) (sym (some_is partial.value w e))
+taken_kept [] partial [] w e = ap (λ v. bit_and v partial.mask) (sym (same_Some partial.value w e))
 taken_kept [] partial (t ∷ ts) w e = cc
 taken_kept (i ∷ is) partial [] w e = cc
 taken_kept (i ∷ is) partial (t ∷ ts) w e =
@@ -194,17 +194,6 @@ shapes_room : list_all all_room SHAPES ≡ true
 unfolding items_in items_of fields.mask_of is_distance is_free leaves_room is_no_vector rows_leave_room has_room all_room
 shapes_room = refl
 
-not_both : (b : Bool) → not b ≡ true → b ≡ true → ⊥
-not_both true x y = cc
-not_both false x y = cc
-
-when_true : (a b : Bool) → a ≡ true → (not a || b) ≡ true → b ≡ true
-when_true true b e h = h
-when_true false b e h = cc
-
-both_true : (a b : Bool) → a ≡ true → b ≡ true → (a && b) ≡ true
-both_true a b p q = ap₂ (λ x y. x && y) p q
-
 -- such a row does not match a word of the shape
 never_matches : (s : Shape) (ts : List Token) (w : ℕ) (row : Line VectorOperation) → word_in s ts ≡ Some w → is_no_vector s row ≡ true
     → bit_and w row.mask ≡ row.value → ⊥
@@ -225,9 +214,9 @@ module _ (i : Item) (s : Shape) (ts : List Token) (w field : ℕ) (said : word_i
       let matches = eqb-true (bit_and w row.mask) row.value (and_parts (bit_and w row.mask == row.value) _ stands).0 in
       let common : bit_and row.value s.mask ≡ bit_and (bit_and s.value s.mask) row.mask =
       ap (λ v. bit_and v s.mask) (sym matches) ∙ and_swap w row.mask s.mask ∙ ap (λ v. bit_and v row.mask) (word_kept s ts w said) in
-      let parts = and_parts (bit_and row.mask (mask_of i) == 0) (is_free row.operation) (when_true _ _ (eq-eqb _ _ common) room) in
+      let parts = and_parts (bit_and row.mask (mask_of i) == 0) (is_free row.operation) (implied _ _ room (eq-eqb _ _ common)) in
       let clear = placed_clear i field row.mask apart (eqb-true _ 0 parts.0) in
-      both_true _ _ (eq-eqb _ _ (or_clear w (placed i field) row.mask clear ∙ matches)) (free_fits row.operation parts.1 _)
+      and_from _ _ (eq-eqb _ _ (or_clear w (placed i field) row.mask clear ∙ matches)) (free_fits row.operation parts.1 _)
 
   some_of : (b : Bool) (it : Insn) (rest : Option Insn) → is_some rest ≡ true → is_some (cond b (Some it) rest) ≡ true
   some_of true it rest e = refl
@@ -299,11 +288,6 @@ record IsNamedIn (ts : List Token) (w : ℕ) (i : Item) : Type 0 where
   sound : is_sound i ≡ true
   distance : is_distance i.kind ≡ true
 
-pub all_at : {A : Type 0} (p : A → Bool) (xs : List A) (n : ℕ) (x : A) → list_all p xs ≡ true → slice_get xs n ≡ Some x → p x ≡ true
-all_at p [] n x e g = cc
-all_at p (y ∷ ys) zero x e g = let same = some_is y x g in subst (λ z. p z ≡ true) same (and_parts (p y) (list_all p ys) e).0
-all_at p (y ∷ ys) (suc n) x e g = all_at p ys n x (and_parts (p y) (list_all p ys) e).1 g
-
 record IsNamed (is : List Item) (i : Item) : Type 0 where
   index : ℕ
   listed : slice_get is index ≡ Some i
@@ -313,7 +297,7 @@ named_if : (b : Bool) (t : Bool) (j : Item) (index : ℕ) (target : Target) → 
     → option_map (λ (i : Item). record { index = index; operand = i }) (cond (b && t) (Some j) None) ≡ Some target → (j ≡ target.operand)
     × (is_distance j.kind ≡ true)
 named_if true true j index target d e =
-    let same : record { index = index; operand = j } ≡ target = some_is _ target e in (ap (λ (x : Target). x.operand) same, d)
+    let same : record { index = index; operand = j } ≡ target = same_Some _ target e in (ap (λ (x : Target). x.operand) same, d)
 named_if true false j index target d e = cc
 named_if false t j index target d e = cc
 
@@ -337,8 +321,8 @@ of_shape s ts w target room said e =
     record {
       shape = s;
       said = said;
-      room = all_at (has_room s) (items_of s) n.index target.operand room n.listed;
-      sound = all_at is_sound (items_of s) n.index target.operand (items_of-sound s) n.listed;
+      room = list_all-get (has_room s) (items_of s) n.index target.operand room n.listed;
+      sound = list_all-get is_sound (items_of s) n.index target.operand (items_of-sound s) n.listed;
       distance = n.distance;
     }
 
@@ -361,14 +345,14 @@ of_name mnemonic ts w target e f =
     let first = slice_index STARTS mnemonic in
     let count = slice_index STARTS (mnemonic + 1) - first in
     of_shapes (take count (drop first SHAPES)) ts w target
-    (all-take all_room count (drop first SHAPES) (all-drop all_room first SHAPES shapes_room)) e f
+    (list_all-take all_room count (drop first SHAPES) (list_all-drop all_room first SHAPES shapes_room)) e f
 
 -- a word of a shape that shares none with a vector row means no vector instruction
 pub never_vector : (s : Shape) (ts : List Token) (w : ℕ) (it : Insn) → word_in s ts ≡ Some w → list_all (is_no_vector s) VECTOR_LINES ≡ true
     → Means vector w it → ⊥
 unfolding vector
 never_vector s ts w it said room m =
-    never_matches s ts w m.line said (all_at (is_no_vector s) VECTOR_LINES m.place m.line room m.listed) m.matches
+    never_matches s ts w m.line said (list_all-get (is_no_vector s) VECTOR_LINES m.place m.line room m.listed) m.matches
 
 -- ---- what operands say
 
@@ -421,8 +405,8 @@ resolved_by : (i : Item) (ts : List Token) (w resolved : ℕ) (o : Option ℕ) �
 unfolding has_room
 resolved_by i ts w resolved None n m e = cc
 resolved_by i ts w resolved (Some field) n m e =
-    let parts = and_parts (bit_and (upper_mask i) (lower_mask i) == 0) _ (when_true (is_distance i.kind) _ n.distance n.room) in
-    subst (λ v. is_some (instruction_of v) ≡ true) (some_is _ resolved e)
+    let parts = and_parts (bit_and (upper_mask i) (lower_mask i) == 0) _ (implied (is_distance i.kind) _ n.room n.distance) in
+    subst (λ v. is_some (instruction_of v) ≡ true) (same_Some _ resolved e)
     (either_meant i n.shape ts w field n.said (eqb-true _ 0 parts.0) parts.1 m)
 
 -- with each distance it means one too

@@ -4,7 +4,8 @@ use Rattle.std.proofs.Common.{bit_and, List}
 use Rattle.std.proofs.Common.{[], ◌∷◌, map, Option, Some, None, cond, refl, ap, ◌∙◌, arith, inl, inr, ltb-true, leb-true}
 use Rattle.std.specs.Prelude.{bit_or, option_map, bit_xor}
 use Rattle.std.specs.List.{list_all}
-use Rattle.std.proofs.lemmas.Bool.{and_parts, or_cases, cond_both, le-ltb, lt-leb}
+use Rattle.std.proofs.lemmas.Bool.{and_parts, or_cases, cond_both, le-ltb, lt-leb, not-true}
+use Rattle.plain_lemmas.proofs.Tests.{and-false}
 use borrow.Author.Tests.{ne_eqb}
 use Rattle.insn_text.specs.declared.item.RegisterFile.{RegisterFile}
 use Rattle.insn_text.specs.declared.item.RegisterFile.TheVariants.{W}
@@ -93,10 +94,6 @@ kinds_apart (kind.Pattern first) bits l other = is_apart_from_words first (first
 kinds_apart (kind.Descending from) bits l other = not (is_said_by_number l)
 kinds_apart alias_alone bits l other = true
 
-not_true : (b : Bool) → not b ≡ true → b ≡ false
-not_true true e = cc
-not_true false e = refl
-
 deaf-character : (l : Kind) (bits d : ℕ) → is_said_by_punctuation l d ≡ false → field_said l bits (Punctuation d) ≡ None
 unfolding is_said_by_punctuation field_said on_punctuation on_keyword on_register on_number on_target on_sized on_bare on_pattern
 deaf-character (kind.Punctuation c) bits d e = ap (λ b. cond b (Some 0) None) e
@@ -130,13 +127,6 @@ deaf-other (kind.Punctuation c) bits = refl
 deaf-other other bits = refl
 
 -- ---- words
-gt-leb : (a b : ℕ) → b < a → nat_le a b ≡ false
-gt-leb a b lt = lt-leb a b lt
-
-and_false : (b : Bool) → (b && false) ≡ false
-and_false true = refl
-and_false false = refl
-
 word-none : (first count low high index : ℕ) → (nat_le high first || nat_le (first + count) low) ≡ true → low ≤ index → index < high
     → keyword_field first count index ≡ None
 unfolding keyword_field
@@ -144,12 +134,12 @@ word-none first count low high index e le lt = elim (or_cases (nat_le high first
   | inl above ↦
       let h = leb-true high first above in
       let less : index < first = omega arith in
-      ap (λ b. cond (b && nat_lt index (first + count)) (Some (index - first)) None) (gt-leb first index less)
+      ap (λ b. cond (b && nat_lt index (first + count)) (Some (index - first)) None) (lt-leb first index less)
   | inr below ↦
       let h = leb-true (first + count) low below in
       let more : first + count ≤ index = omega arith in
       ap (λ b. cond (nat_le first index && b) (Some (index - first)) None) (le-ltb index (first + count) more)
-      ∙ ap (λ b. cond b (Some (index - first)) None) (and_false (nat_le first index))
+      ∙ ap (λ b. cond b (Some (index - first)) None) (and-false (nat_le first index))
 ]
 
 pattern-none : (first low high index : ℕ) → (nat_le high first || nat_le (first + 17) low) ≡ true → low ≤ index → index < high
@@ -199,20 +189,20 @@ sized-none file low high wanted few first bits number suffix e le lt =
     let made : Bool → Option ℕ = λ b. cond b (Some ((suffix - first) * 2 ^ few + number)) None in
     let own = nat_lt number (2 ^ few) in
     elim (or_cases (not (same_vector_file wanted file)) (nat_le high first || nat_le (first + 2 ^ (bits - few)) low) e) [
-      | inl other ↦ ap (λ b. made (b && own && nat_le first suffix && nat_lt (suffix - first) (2 ^ (bits - few)))) (not_true _ other)
+      | inl other ↦ ap (λ b. made (b && own && nat_le first suffix && nat_lt (suffix - first) (2 ^ (bits - few)))) (not-true _ other)
       | inr apart ↦ elim (or_cases (nat_le high first) (nat_le (first + 2 ^ (bits - few)) low) apart) [
         | inl above ↦
             let h = leb-true high first above in
             let less : suffix < first = omega arith in
             ap (λ b. made (same_vector_file wanted file && own && b && nat_lt (suffix - first) (2 ^ (bits - few))))
-            (gt-leb first suffix less)
-            ∙ ap (λ b. made (b && nat_lt (suffix - first) (2 ^ (bits - few)))) (and_false (same_vector_file wanted file && own))
+            (lt-leb first suffix less)
+            ∙ ap (λ b. made (b && nat_lt (suffix - first) (2 ^ (bits - few)))) (and-false (same_vector_file wanted file && own))
         | inr below ↦
             let h = leb-true (first + 2 ^ (bits - few)) low below in
             let more : 2 ^ (bits - few) ≤ suffix - first = omega arith in
             ap (λ b. made (same_vector_file wanted file && own && nat_le first suffix && b))
             (le-ltb (suffix - first) (2 ^ (bits - few)) more)
-            ∙ ap made (and_false (same_vector_file wanted file && own && nat_le first suffix))
+            ∙ ap made (and-false (same_vector_file wanted file && own && nat_le first suffix))
       ]
     ]
 
@@ -239,34 +229,34 @@ pattern-lt field lt =
 pub kinds-apart : (k l : Kind) (bits other field : ℕ) → is_printed_kind k bits ≡ true → is_within k field ≡ true → field < 2 ^ bits
     → kinds_apart k bits l other ≡ true → field_said l other (token_said k bits field) ≡ None
 unfolding is_printed_kind is_within kinds_apart token_said
-kinds-apart (kind.Punctuation c) l bits other field p w lt e = deaf-character l other c (not_true (is_said_by_punctuation l c) e)
+kinds-apart (kind.Punctuation c) l bits other field p w lt e = deaf-character l other c (not-true (is_said_by_punctuation l c) e)
 kinds-apart (kind.Keyword first count) l bits other field p w lt e =
     let less = ltb-true field count w in deaf-word l other first (first + count) (first + field) e (omega arith) (omega arith)
 kinds-apart (kind.Register file last) l bits other field p w lt e =
     let q = and_parts (is_apart_from_words last (last + 1) l) (not (is_said_by_register file l)) e in
     cond_both (field == 31) (Keyword last) (Register file field) (λ t. field_said l other t ≡ None)
     (λ _. deaf-word l other last (last + 1) last q.0 (omega arith) (omega arith))
-    (λ _. deaf-register l other field file (not_true _ q.1))
+    (λ _. deaf-register l other field file (not-true _ q.1))
 kinds-apart (kind.Unsigned base scale most) l bits other field p w lt e =
-    deaf-number l other (field * scale + base) false (not_true (is_said_by_number l) e)
+    deaf-number l other (field * scale + base) false (not-true (is_said_by_number l) e)
 kinds-apart (kind.Signed scale) l bits other field p w lt e =
-    deaf-number l other (size_of bits field * scale) (not (is_positive bits field)) (not_true (is_said_by_number l) e)
+    deaf-number l other (size_of bits field * scale) (not (is_positive bits field)) (not-true (is_said_by_number l) e)
 kinds-apart (kind.Distance scale) l bits other field p w lt e =
-    deaf-distance l other (size_of bits field * scale) (not (is_positive bits field)) (not_true (is_said_by_distance l) e)
-kinds-apart (kind.Mask wide) l bits other field p w lt e = deaf-mask l other (mask_in wide field) (not_true (is_said_by_number l) e)
+    deaf-distance l other (size_of bits field * scale) (not (is_positive bits field)) (not-true (is_said_by_distance l) e)
+kinds-apart (kind.Mask wide) l bits other field p w lt e = deaf-mask l other (mask_in wide field) (not-true (is_said_by_number l) e)
 kinds-apart (kind.Sized file few first) l bits other field p w lt e =
     let q = sized-parts few bits field (leb-true few bits p) lt in
     deaf-sized l other first (first + 2 ^ (bits - few)) (field % 2 ^ few) (first + field / 2 ^ few) file e (omega arith)
     (omega (arith, q.high))
-kinds-apart kind.SliceRegister l bits other field p w lt e = deaf-register l other (12 + field) W (not_true _ e)
-kinds-apart kind.Index l bits other field p w lt e = deaf-bare l other field (not_true _ e)
+kinds-apart kind.SliceRegister l bits other field p w lt e = deaf-register l other (12 + field) W (not-true _ e)
+kinds-apart kind.Index l bits other field p w lt e = deaf-bare l other field (not-true _ e)
 kinds-apart (kind.Pattern first) l bits other field p w lt e =
     let q = and_parts (is_apart_from_words first (first + 17) l) (not (is_said_by_number l)) e in
     cond_both (is_named_pattern field) (Keyword (first + pattern_index field)) (Number false field) (λ t. field_said l other t ≡ None)
     (λ _. deaf-word l other first (first + 17) (first + pattern_index field) q.0 (omega arith)
     (omega (arith, pattern-lt field (ltb-true field 32 w))))
-    (λ _. deaf-number l other field false (not_true _ q.1))
-kinds-apart (kind.Descending from) l bits other field p w lt e = deaf-number l other (from - field) false (not_true (is_said_by_number l) e)
+    (λ _. deaf-number l other field false (not-true _ q.1))
+kinds-apart (kind.Descending from) l bits other field p w lt e = deaf-number l other (from - field) false (not-true (is_said_by_number l) e)
 kinds-apart (kind.SignedMask wide) l bits other field p w lt e = deaf-other l other
 kinds-apart (kind.ShiftLeft wide) l bits other field p w lt e = deaf-other l other
 kinds-apart (kind.Opposite first count) l bits other field p w lt e = deaf-other l other

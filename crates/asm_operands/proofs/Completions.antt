@@ -6,9 +6,10 @@ use Rattle.std.specs.Prelude.{bit_or, slice_get, slice_index}
 use Rattle.std.specs.Int.{bit_at}
 use Rattle.std.specs.Int.Bits.{or_zero_r}
 use Rattle.std.specs.List.{list_all, list_any}
-use Rattle.std.proofs.lemmas.Bool.{and_parts, or_cases, cases_lt, cond_both}
+use Rattle.std.proofs.lemmas.Bool.{and_parts, or_cases, cases_lt, cond_both, and_from}
 use Rattle.std.proofs.lemmas.Nat.{and_assoc, and_comm, and_or_self, and_or_apart, or_comm, shl-shr}
 use Rattle.std.proofs.lemmas.Nat.Bits.{bit_at_and, bit_at_or, same_from_bits}
+use Rattle.plain_lemmas.proofs.Lists.{list_all-drop, list_all-take}
 use Rattle.insn_forms.specs.Fields.{field_of}
 use Rattle.insn_forms.specs.Fields as fields
 use Rattle.insn_text.specs.declared.item.Kind.{Kind}
@@ -34,7 +35,6 @@ use Rattle.asm_operands.specs.Operands.{is_number_item, wants_number}
 use Rattle.asm_operands.proofs.Bare.{free}
 use Rattle.asm_operands.proofs.PrintedTokens.{said-heard}
 use Rattle.asm_operands.proofs.MaskFields.{all_below, all_below-at}
-use Rattle.asm_operands.proofs.Tables.{all-take, all-drop}
 use Rattle.asm_operands.proofs.SomeToken.{has_word, said, is_register, says_number, says_last, says_each}
 use Rattle.asm_operands.proofs.SomeToken.{each_printed, each_within, each_number, number_said}
 use Rattle.asm_operands.proofs.Failing.{failing, none-failing}
@@ -185,9 +185,6 @@ has_choice BaseApart i = is_register_at 5 i
 has_choice BasePairApart i = is_register_at 5 i
 has_choice OffsetGiven i = is_register_at 16 i
 
-both_true : (a b : Bool) → a ≡ true → b ≡ true → (a && b) ≡ true
-both_true a b p q = ap₂ (λ x y. x && y) p q
-
 choose : (rule : Rule) (i : Item) (value : ℕ) → has_choice rule i ≡ true → bit_and value (mask_of i) ≡ 0 → IsChosen i rule value
 unfolding has_choice meets
 choose Free i value e free =
@@ -208,7 +205,7 @@ choose BasePairApart i value e free =
       field = 31;
       said = s.said;
       meets_rule =
-          both_true _ _ (base_apart i value (field_of (bit_or value (placed i 31)) 0 5) r)
+          and_from _ _ (base_apart i value (field_of (bit_or value (placed i 31)) 0 5) r)
           (base_apart i value (field_of (bit_or value (placed i 31)) 10 5) r);
     }
 choose OffsetGiven i value e free =
@@ -259,7 +256,7 @@ agreed : (i : Item) (partial : PartialWord) (token : Token) (field : ℕ) → fi
     → partial_after i partial token ≡ Some (with_field i partial field)
 unfolding partial_after partial_with agrees with_field
 agreed i partial token field heard same rule =
-    ap (partial_with i partial) heard ∙ ap (λ b. cond b (Some (with_field i partial field)) None) (both_true _ _ (eq-eqb _ _ same) rule)
+    ap (partial_with i partial) heard ∙ ap (λ b. cond b (Some (with_field i partial field)) None) (and_from _ _ (eq-eqb _ _ same) rule)
 
 new_step : (i : Item) (partial : PartialWord) → bit_and (upper_mask i) (lower_mask i) ≡ 0 → bit_and partial.mask (mask_of i) ≡ 0
     → IsWithin partial
@@ -377,7 +374,7 @@ open_of_name : (mnemonic : ℕ) → list_all is_open (shapes_of mnemonic) ≡ tr
 unfolding shapes_of
 open_of_name mnemonic =
     let first = slice_index STARTS mnemonic in
-    all-take is_open (slice_index STARTS (mnemonic + 1) - first) (drop first SHAPES) (all-drop is_open first SHAPES all_open)
+    list_all-take is_open (slice_index STARTS (mnemonic + 1) - first) (drop first SHAPES) (list_all-drop is_open first SHAPES all_open)
 
 has_shape : ℕ → Bool
 has_shape mnemonic = nat_lt 0 (length (shapes_of mnemonic))

@@ -2,7 +2,7 @@
 use Rattle.std.proofs.Common.{◌≡◌, ℕ, zero, suc, ◌+◌, ◌-◌, ◌*◌, ◌%◌, ◌/◌, ◌^◌, ◌<◌, ◌≤◌, ◌==◌, ◌&&◌, ◌⊎◌, not, Bool, true, false, nat_lt}
 use Rattle.std.proofs.Common.{refl, sym, ap, ap₂, ◌∙◌, subst, arith, inl, inr, lit<, Option, Some, None, cond, eqb-true, eq-eqb, lt-ltb}
 use Rattle.std.proofs.Common.{ltb-true}
-use Rattle.std.proofs.lemmas.Bool.{and_parts, cases_lt}
+use Rattle.std.proofs.lemmas.Bool.{and_parts, cases_lt, false_from_ne_true, and_from}
 use Rattle.std.proofs.lemmas.Nat.{mod_below}
 use Rattle.std.proofs.Math.Nat.{mod-eq_of_lt}
 use Rattle.insn_forms.specs.Fields.{field_of}
@@ -95,21 +95,18 @@ not_reserved n wide imms immr mask e = ap not (reserved_not (is_reserved n imms 
 is_that-same : (mask : ℕ) (o : Option ℕ) → o ≡ Some mask → is_that mask o ≡ true
 is_that-same mask o e = ap (is_that mask) e ∙ eq-eqb mask mask refl
 
-both_true : (a b : Bool) → a ≡ true → b ≡ true → (a && b) ≡ true
-both_true a b p q = ap₂ (λ x y. x && y) p q
-
 pub of-fields : (n wide : Bool) (imms immr mask : ℕ) → IsFieldsOf n imms immr wide mask → is_field_of wide mask (joined n immr imms) ≡ true
 unfolding is_field_of mask_in are_mask_fields field_of
 of-fields n wide imms immr mask f =
     let lt = f.imms_in_range in
     let small = immr-lt n wide imms immr mask f in
     let test : are_mask_fields n imms immr wide ≡ true =
-    both_true (not (is_reserved n imms wide)) (nat_lt immr (size_of n imms)) (not_reserved n wide imms immr mask f.given)
+    and_from (not (is_reserved n imms wide)) (nat_lt immr (size_of n imms)) (not_reserved n wide imms immr mask f.given)
     (lt-ltb _ _ f.immr_in_range) in
     let b = bit_back n immr imms small lt in
     let r = immr_back n immr imms small lt in
     let s = imms_back n immr imms small lt in
-    both_true _ _ (rw (b, r, s) test) (is_that-same mask _ (rw (b, r, s) f.given))
+    and_from _ _ (rw (b, r, s) test) (is_that-same mask _ (rw (b, r, s) f.given))
 
 -- ---- a mask has no other fields
 record IsLeast (p : ℕ → Bool) (from n index : ℕ) : Type 0 where
@@ -229,22 +226,18 @@ unique-field wide mask a b lt lt' e f =
     mask (fields-of wide mask a e) (fields-of wide mask b f)
     ∙ joined-back b lt'
 
-false_of : (b : Bool) → (b ≡ true → ⊥) → b ≡ false
-false_of true h = absurd (h refl)
-false_of false h = refl
-
 pub mask_field-is : (wide : Bool) (mask field : ℕ) → field < 8192 → is_field_of wide mask field ≡ true → mask_field wide mask ≡ Some field
 unfolding mask_field
 mask_field-is wide mask field lt e =
     find-first (is_field_of wide mask) 8192 field lt e
-    (λ q low. false_of (is_field_of wide mask q)
+    (λ q low. false_from_ne_true (is_field_of wide mask q)
     (λ t. let within : q < 8192 = omega arith in let s = unique-field wide mask q field within lt t e in omega arith))
 
 pub mask_field-none : (wide : Bool) (mask : ℕ) → ((n : Bool) (imms immr : ℕ) → IsFieldsOf n imms immr wide mask → ⊥)
     → mask_field wide mask ≡ None
 unfolding mask_field
 mask_field-none wide mask never =
-    find-none (is_field_of wide mask) 8192 (λ q lt. false_of (is_field_of wide mask q)
+    find-none (is_field_of wide mask) 8192 (λ q lt. false_from_ne_true (is_field_of wide mask q)
     (λ t. never (field_of q 12 1 == 1) (field_of q 0 6) (field_of q 6 6) (fields-of wide mask q t)))
 
 -- ---- numbers of the code
@@ -313,5 +306,5 @@ mask-given wide field lt e =
       mask = m;
       given = given;
       back = mask_field-is wide m field lt
-          (both_true (are_mask_fields n imms immr wide) (is_that m (mask_in wide field)) e (is_that-same m (mask_in wide field) given));
+          (and_from (are_mask_fields n imms immr wide) (is_that m (mask_in wide field)) e (is_that-same m (mask_in wide field) given));
     }

@@ -1,9 +1,10 @@
 -- What `mov` of a number says.
-use Rattle.std.proofs.Common.{◌≡◌, ℕ, ◌-◌, ◌^◌, ◌<◌, ◌==◌, ◌&&◌, Bool, true, false, bit_and, List, [], ◌∷◌, Option, Some, None, cond}
+use Rattle.std.proofs.Common.{◌≡◌, ℕ, ◌-◌, ◌^◌, ◌<◌, ◌==◌, Bool, true, false, bit_and, List, [], ◌∷◌, Option, Some, None, cond}
 use Rattle.std.proofs.Common.{get_or, drop}
 use Rattle.std.proofs.Common.{refl, sym, ap, ap₂, ◌∙◌, codes}
 use Rattle.std.specs.Prelude.{bit_or, option_map, option_and_then}
 use Rattle.std.proofs.lemmas.Nat.{and_assoc, and_comm, or_comm}
+use Rattle.std.proofs.lemmas.Bool.{and_from}
 use Rattle.bit_ops.specs.Bits.{width_of}
 use Rattle.insn_forms.proofs.Bits.{placed-within, joined_within}
 use Rattle.insn_forms.specs.Fields as fields
@@ -59,9 +60,6 @@ unfolding IsWithin with_field
 with_within i partial field n w =
     joined_within partial.value (placed i field) partial.mask (mask_of i) w (placed-within i.field field n.parts)
 
-both_true : (a b : Bool) → a ≡ true → b ≡ true → (a && b) ≡ true
-both_true a b p q = ap₂ (λ x y. x && y) p q
-
 opened : (i : Item) (partial : PartialWord) (f : ℕ) → IsOpen i partial.mask → IsWithin partial
     → partial_with i partial (Some f) ≡ Some (with_field i partial f)
 unfolding IsWithin partial_with agrees with_field meets
@@ -71,7 +69,7 @@ opened i partial f n w =
     let here : bit_and (placed i f) partial.mask ≡ 0 =
     outside (placed i f) (mask_of i) partial.mask own (and_comm (mask_of i) partial.mask ∙ n.nothing_known) in
     let rule : meets i.rule (bit_or partial.value (placed i f)) ≡ true = ap (λ r. meets r (bit_or partial.value (placed i f))) n.free in
-    ap (λ b. cond b (Some (with_field i partial f)) None) (both_true _ _ (ap₂ (λ a b. a == b) before here) rule)
+    ap (λ b. cond b (Some (with_field i partial f)) None) (and_from _ _ (ap₂ (λ a b. a == b) before here) rule)
 
 last : (k : Item) (partial : PartialWord) (o : Option ℕ) → IsOpen k partial.mask → IsWithin partial
     → taken_on (λ next. taken [] next []) (partial_with k partial o) ≡ option_map (λ f. bit_or partial.value (placed k f)) o

@@ -4,6 +4,7 @@ use Rattle.std.proofs.Common.{None, length, take, drop, slice_get, max, refl, ap
 use Rattle.std.specs.List.{list_all, list_any}
 use Rattle.std.specs.Prelude.{is_some, slice_index, if◌then◌else◌, option_and_then, option_map}
 use Rattle.std.proofs.lemmas.Bool.{and_parts}
+use Rattle.plain_lemmas.proofs.Lists.{slice_get-take, list_all-drop, list_all-take}
 use Rattle.insn_text.specs.declared.shapes.TheConstants.{SHAPES, STARTS}
 use Rattle.insn_text.specs.declared.item.Item.{Item}
 use Rattle.insn_text.specs.declared.item.Shape.{Shape}
@@ -13,7 +14,6 @@ use Rattle.asm_operands.specs.Operands.{PartialWord, partial_after, taken_on, ta
 use Rattle.asm_operands.specs.Operands.{shapes_of}
 use Rattle.asm_operands.specs.Operands.{first_of_words, first_word, furthest, is_number_item, wants_number, is_whole, kind_at, Fault}
 use Rattle.asm_operands.specs.Operands.{operand_fault, names, target_in, target_of, if_meant, word_said, said_or, Fails, operands_said}
-use Rattle.asm_operands.proofs.Tables.{all-take, all-drop}
 use Rattle.asm_operands.proofs.Failing.{failing, none-failing}
 
 -- ---- one shape
@@ -58,12 +58,6 @@ taken_count-le (i ∷ is) [] partial = omega arith
 taken_count-le (i ∷ is) (t ∷ ts) partial =
     count_on-le (λ next. taken_count is next ts) (length is) (λ k. taken_count-le is ts k) (partial_after i partial t)
 
-get-few : (n k : ℕ) (ts : List Token) → k < n → slice_get (take n ts) k ≡ slice_get ts k
-get-few zero k ts lt = absurd (omega arith)
-get-few (suc n) k [] lt = refl
-get-few (suc n) zero (t ∷ ts) lt = refl
-get-few (suc n) (suc k) (t ∷ ts) lt = get-few n k ts (omega arith)
-
 -- ---- shapes with few operands
 unfoldable pub has_few : Shape → Bool
 has_few s = nat_lt (length (items_of s)) 24
@@ -79,7 +73,7 @@ few_of_name : (mnemonic : ℕ) → list_all has_few (shapes_of mnemonic) ≡ tru
 unfolding shapes_of
 few_of_name mnemonic =
     let first = slice_index STARTS mnemonic in
-    all-take has_few (slice_index STARTS (mnemonic + 1) - first) (drop first SHAPES) (all-drop has_few first SHAPES all_few)
+    list_all-take has_few (slice_index STARTS (mnemonic + 1) - first) (drop first SHAPES) (list_all-drop has_few first SHAPES all_few)
 
 few-lt : (s : Shape) → has_few s ≡ true → length (items_of s) < 24
 unfolding has_few
@@ -147,7 +141,7 @@ fault-few ss ts e =
     let lt = furthest-lt ss ts e in
     let make : ℕ → Option Token → Fault = λ n o. record { index = n; kind = kind_at ss n (take 24 ts) o } in
     ap (λ n. make n (slice_get (take 24 ts) n)) same
-    ∙ ap (make (furthest ss ts)) (get-few 24 (furthest ss ts) ts lt)
+    ∙ ap (make (furthest ss ts)) (slice_get-take 24 (furthest ss ts) ts lt)
     ∙ ap (λ k. record { index = furthest ss ts; kind = k }) (kind-few ss (furthest ss ts) ts (slice_get ts (furthest ss ts)) e)
 
 target_in-few : (is : List Item) (ts : List Token) → length is < 24 → target_in is (take 24 ts) ≡ target_in is ts
@@ -155,7 +149,7 @@ unfolding target_in
 target_in-few is ts lt =
     let less : length is - 1 < 24 = omega arith in
     ap (λ o. option_map (λ (i : Item). record { index = length is - 1; operand = i })
-    (option_and_then (names o) (slice_get is (length is - 1)))) (get-few 24 (length is - 1) ts less)
+    (option_and_then (names o) (slice_get is (length is - 1)))) (slice_get-take 24 (length is - 1) ts less)
 
 target-few : (ss : List Shape) (ts : List Token) → list_all has_few ss ≡ true → target_of ss (take 24 ts) ≡ target_of ss ts
 unfolding target_of

@@ -1,9 +1,9 @@
 -- The tokens of a word say the word in its shape.
-use Rattle.std.proofs.Common.{◌≡◌, ℕ, ◌-◌, ◌^◌, ◌<◌, ◌==◌, ◌&&◌, Bool, true, List, [], ◌∷◌, map, Some, None, cond, bit_and, sym, ap, ap₂}
+use Rattle.std.proofs.Common.{◌≡◌, ℕ, ◌-◌, ◌^◌, ◌<◌, ◌==◌, ◌&&◌, Bool, true, List, [], ◌∷◌, map, Some, None, cond, bit_and, sym, ap}
 use Rattle.std.proofs.Common.{◌∙◌, eqb-true, eq-eqb, mod-eq_of_lt}
 use Rattle.std.specs.Prelude.{bit_or}
 use Rattle.std.specs.List.{list_all}
-use Rattle.std.proofs.lemmas.Bool.{and_parts}
+use Rattle.std.proofs.lemmas.Bool.{and_parts, and_from}
 use Rattle.std.proofs.lemmas.Nat.{and_mask}
 use Rattle.insn_text.specs.declared.item.Item.{Item}
 use Rattle.insn_text.specs.declared.item.Shape.{Shape}
@@ -30,9 +30,6 @@ says_rest (i ∷ is) mask = is_printed_item i && (covers i.rule (bit_or mask (ma
 -- the bits of a word that a mask has
 abbrev pub partial_at : ℕ → ℕ → PartialWord
 partial_at w mask = record { mask = mask; value = bit_and w mask }
-
-both_true : (a b : Bool) → a ≡ true → b ≡ true → (a && b) ≡ true
-both_true a b p q = ap₂ (λ x y. x && y) p q
 
 pub item-heard : (i : Item) (w : ℕ) → is_printed_item i ≡ true → is_sayable w i ≡ true
     → field_said i.kind (bits_of i) (item_token w i) ≡ Some (field_in i w)
@@ -67,7 +64,7 @@ item-taken i w mask p c e =
     let rule : meets i.rule (bit_or (bit_and w mask) (placed i f)) ≡ true =
     ap (meets i.rule) value ∙ meets-kept i.rule w (bit_or mask (mask_of i)) c ∙ meets_here i w e in
     ap (partial_with i partial) (item-heard i w p e)
-    ∙ ap (λ b. cond b (Some (with_field i partial f)) None) (both_true _ _ (eq-eqb _ _ same) rule)
+    ∙ ap (λ b. cond b (Some (with_field i partial f)) None) (and_from _ _ (eq-eqb _ _ same) rule)
     ∙ ap (λ v. Some (record { mask = bit_or mask (mask_of i); value = v })) value
 
 pub taken-shown : (is : List Item) (mask w : ℕ) → w < 2 ^ 32 → says_rest is mask ≡ true → list_all (is_sayable w) is ≡ true

@@ -1,10 +1,12 @@
 -- The tokens of a word that is printed say the word, and no target: the shapes of a mnemonic are told apart by any operand's tokens.
 use Rattle.std.proofs.Common.{◌≡◌, ℕ, zero, suc, ◌+◌, ◌-◌, ◌^◌, ◌<◌, ◌≤◌, ◌==◌, ◌&&◌, ◌||◌, not, Bool, true, false, nat_lt, nat_le, bit_and}
-use Rattle.std.proofs.Common.{List, [], ◌∷◌, map, take, drop, length, slice_get, Option, Some, None, cond, refl, sym, ap, ap₂, ◌∙◌, arith}
+use Rattle.std.proofs.Common.{List, [], ◌∷◌, drop, length, slice_get, Option, Some, None, cond, refl, sym, ap, ap₂, ◌∙◌, arith}
 use Rattle.std.proofs.Common.{eqb-true, ltb-true, leb-true}
 use Rattle.std.specs.Prelude.{slice_index, is_some, if◌then◌else◌, option_map, option_and_then}
 use Rattle.std.specs.List.{list_all, find}
-use Rattle.std.proofs.lemmas.Bool.{and_parts}
+use Rattle.std.proofs.lemmas.Bool.{and_parts, not-true}
+use Rattle.std.proofs.lemmas.Option.{slice_get-map, same_Some}
+use Rattle.plain_lemmas.proofs.Lists.{slice_get-take}
 use Rattle.sm_types.specs.declared.insn.Insn.{Insn}
 use Rattle.a64_encode.specs.Either.{instruction_of}
 use Rattle.insn_forms.specs.Fields as fields
@@ -17,7 +19,6 @@ use Rattle.insn_text.specs.declared.shapes.TheConstants.{SHAPES, STARTS}
 use Rattle.insn_text.specs.Texts.{items_in, items_of, prints, printed_shape}
 use Rattle.insn_text.specs.Rules.{is_sayable, IsPrinted}
 use Rattle.asm_tokens.specs.Tokens.{is_name}
-use Rattle.asm_tokens.specs.declared.token.Token.{Token}
 use Rattle.asm_operands.specs.declared.operands.Target.{Target}
 use Rattle.insn_text.specs.Wordings.{file_number}
 use Rattle.asm_operands.specs.Fields.{same_file, same_vector_file}
@@ -91,12 +92,6 @@ get-drop (suc a) (suc k) [] h = refl
 get-drop (suc a) (suc k) (s ∷ ss) h =
     let e : suc k - suc a ≡ k - a = omega arith in let l : a ≤ k = omega arith in ap (slice_get (drop a ss)) e ∙ get-drop a k ss l
 
-get-take : (n k : ℕ) (ss : List Shape) → k < n → slice_get (take n ss) k ≡ slice_get ss k
-get-take zero k ss h = absurd (omega arith)
-get-take (suc n) k [] h = refl
-get-take (suc n) zero (s ∷ ss) h = refl
-get-take (suc n) (suc k) (s ∷ ss) h = let l : k < n = omega arith in get-take n k ss l
-
 record IsOfName (s : Shape) : Type 0 where
   index : ℕ
   listed : slice_get (shapes_of s.mnemonic) index ≡ Some s
@@ -116,7 +111,7 @@ of_name k s g =
     let within : k - a < b - a = omega arith in
     record {
       index = k - a;
-      listed = get-take (b - a) (k - a) (drop a SHAPES) within ∙ get-drop a k SHAPES low ∙ g;
+      listed = slice_get-take (b - a) (k - a) (drop a SHAPES) within ∙ get-drop a k SHAPES low ∙ g;
       named = ltb-true s.mnemonic (length MNEMONICS) p.1;
     }
 
@@ -126,13 +121,10 @@ record IsFound (p : Shape → Bool) (ss : List Shape) (s : Shape) : Type 0 where
   listed : slice_get ss index ≡ Some s
   passes : p s ≡ true
 
-same_shape : (a b : Shape) → ◌≡◌ {A = Option Shape} (Some a) (Some b) → a ≡ b
-same_shape a b e = cc
-
 found : (p : Shape → Bool) (ss : List Shape) (s : Shape) → find p ss ≡ Some s → IsFound p ss s
 found p [] s e = cc
 found p (r ∷ ss) s e = elim (p r) as (λ b. p r ≡ b → cond b (Some r) (find p ss) ≡ Some s → IsFound p (r ∷ ss) s) [
-  | true ↦ λ is h. let same = same_shape r s h in record { index = 0; listed = h; passes = ap p (sym same) ∙ is }
+  | true ↦ λ is h. let same = same_Some r s h in record { index = 0; listed = h; passes = ap p (sym same) ∙ is }
   | false ↦ λ is h. let f = found p ss s h in record { index = suc f.index; listed = f.listed; passes = f.passes }
 ] refl e
 
@@ -141,23 +133,14 @@ record IsOwn (word : ℕ) (s : Shape) : Type 0 where
   printed : s.alias ≡ false
   matches : bit_and word s.mask ≡ s.value
 
-not_true : (b : Bool) → not b ≡ true → b ≡ false
-not_true true e = cc
-not_true false e = refl
-
 own : (word : ℕ) (s : Shape) → printed_shape word ≡ Some s → IsOwn word s
 unfolding printed_shape prints
 own word s e =
     let f = found (λ x. not x.alias && (bit_and word x.mask == x.value)) SHAPES s e in
     let p = and_parts (not s.alias) (bit_and word s.mask == s.value) f.passes in
-    record { of_its_name = of_name f.index s f.listed; printed = not_true s.alias p.0; matches = eqb-true _ _ p.1 }
+    record { of_its_name = of_name f.index s f.listed; printed = not-true s.alias p.0; matches = eqb-true _ _ p.1 }
 
 -- ---- the place of a target
-get-map : (f : Item → Token) (is : List Item) (n : ℕ) → slice_get (map f is) n ≡ option_map f (slice_get is n)
-get-map f [] n = refl
-get-map f (i ∷ is) zero = refl
-get-map f (i ∷ is) (suc n) = get-map f is n
-
 never_named : (k : Kind) (bits field : ℕ) → (is_distance k && is_name (token_said k bits field)) ≡ false
 unfolding is_distance is_name token_said
 never_named (kind.Punctuation c) bits field = refl
@@ -192,7 +175,7 @@ target-none s w =
     let is = items_of s in
     let last = length is - 1 in
     let make : Option Item → Option Target = option_map (λ (i : Item). record { index = last; operand = i }) in
-    ap (λ o. make (option_and_then (names o) (slice_get is last))) (get-map (item_token w) is last)
+    ap (λ o. make (option_and_then (names o) (slice_get is last))) (slice_get-map (item_token w) is last)
     ∙ ap make (no_name w (slice_get is last))
 
 -- ---- among the shapes of the name
@@ -208,7 +191,7 @@ later-get : (earlier : List Item) (ss : List Shape) (k : ℕ) (s : Shape) → li
 later-get earlier [] k s e g = cc
 later-get earlier (r ∷ ss) zero s e g =
     let same =
-    same_shape r s g in
+    same_Some r s g in
     ap (is_later_apart earlier) (sym same) ∙ (and_parts (is_later_apart earlier r) (list_all (is_later_apart earlier) ss) e).0
 later-get earlier (r ∷ ss) (suc k) s e g =
     later-get earlier ss k s (and_parts (is_later_apart earlier r) (list_all (is_later_apart earlier) ss) e).1 g
@@ -218,7 +201,7 @@ unfolding are_apart
 says_word-get [] k s e g = cc
 says_word-get (r ∷ ss) zero s e g =
     let same =
-    same_shape r s g in
+    same_Some r s g in
     ap says_word (sym same) ∙ (and_parts (says_word r) (list_all (is_later_apart (items_of r)) ss && are_apart ss) e).0
 says_word-get (r ∷ ss) (suc k) s e g =
     says_word-get ss k s (and_parts (list_all (is_later_apart (items_of r)) ss) (are_apart ss)
@@ -231,7 +214,7 @@ unfolding are_apart is_later_apart first_word target_of
 says-own [] k s w e g printed all says sayable = cc
 says-own (r ∷ ss) zero s w e g printed all says sayable =
     let ts = tokens_shown s w in
-    let same = same_shape r s g in
+    let same = same_Some r s g in
     let here : word_in r ts ≡ Some w = ap (λ (x : Shape). word_in x ts) same ∙ says in
     record {
       word = ap (λ o. first_of_words o (first_word ss ts)) here;

@@ -3,7 +3,7 @@ use Rattle.std.proofs.Common.{◌≡◌, ℕ, zero, suc, ◌+◌, ◌-◌, ◌*�
 use Rattle.std.proofs.Common.{nat_le}
 use Rattle.std.proofs.Common.{Some, None, cond, refl, sym, ap, ap₂, ◌∙◌, subst, arith, inl, inr, eqb-true, eq-eqb, lt-ltb, ltb-true, le-leb}
 use Rattle.std.proofs.Common.{leb-true, mod-eq_of_lt}
-use Rattle.std.proofs.lemmas.Bool.{and_parts, cases_lt, le-ltb}
+use Rattle.std.proofs.lemmas.Bool.{and_parts, cases_lt, le-ltb, and_from}
 use Rattle.std.proofs.lemmas.Nat.{pow-add, pow_pos}
 use Rattle.std.proofs.Math.Nat.{mul-div_cancel, mul-mod_left}
 use Rattle.std.specs.Prelude.{Option, option_map}
@@ -24,6 +24,7 @@ use Rattle.asm_operands.specs.Fields.{last_field, unsigned_field, signed_field, 
 use Rattle.asm_operands.specs.Fields.{on_sized, on_bare, on_pattern, same_vector_file, sized_field, slice_field, index_field}
 use Rattle.asm_operands.specs.Fields.{pattern_after, pattern_of_keyword, pattern_of_number, descending_field}
 use Rattle.std.specs.Prelude.{if◌then◌else◌}
+use Rattle.plain_lemmas.proofs.Numbers.{two_pow-halves}
 use Rattle.asm_tokens.specs.declared.token.Token.TheVariants.{Register, Keyword, Number}
 use Rattle.asm_operands.specs.Shown.{mask_token, token_said}
 use Rattle.asm_operands.proofs.MaskFields.{mask-given}
@@ -48,9 +49,6 @@ is_printed_kind (kind.ShiftLeft wide) bits = false
 is_printed_kind (kind.Opposite first count) bits = false
 is_printed_kind (kind.Halfword wide inverted) bits = false
 
-both_true : (a b : Bool) → a ≡ true → b ≡ true → (a && b) ≡ true
-both_true a b p q = ap₂ (λ x y. x && y) p q
-
 -- ---- words
 word_back : (first count field : ℕ) → field < count → keyword_field first count (first + field) ≡ Some field
 unfolding keyword_field
@@ -58,7 +56,7 @@ word_back first count field lt =
     let le : first ≤ first + field = omega arith in
     let less : first + field < first + count = omega arith in
     let back : first + field - first ≡ field = omega arith in
-    ap₂ (λ b n. cond b (Some n) None) (both_true _ _ (le-leb first (first + field) le) (lt-ltb (first + field) (first + count) less)) back
+    ap₂ (λ b n. cond b (Some n) None) (and_from _ _ (le-leb first (first + field) le) (lt-ltb (first + field) (first + count) less)) back
 
 own_file : (file : RegisterFile) → same_file file file ≡ true
 unfolding same_file
@@ -67,7 +65,7 @@ own_file W = refl
 
 pub register-said : (file : RegisterFile) (number : ℕ) → number < 31 → register_field file file number ≡ Some number
 unfolding register_field
-register-said file number lt = ap (λ b. cond b (Some number) None) (both_true _ _ (own_file file) (lt-ltb number 31 lt))
+register-said file number lt = ap (λ b. cond b (Some number) None) (and_from _ _ (own_file file) (lt-ltb number 31 lt))
 
 pub last-said : (last : ℕ) → last_field last last ≡ Some 31
 unfolding last_field
@@ -99,18 +97,12 @@ unsigned_back base scale most f positive le =
     let l : base ≤ s = omega arith in
     ap (λ m. cond (nat_le base s && (m % scale == 0) && nat_le (m / scale) most) (Some (m / scale)) None) e
     ∙ scaled_in (λ q r. cond (nat_le base s && (r == 0) && nat_le q most) (Some q) None) f scale positive
-    ∙ ap (λ b. cond b (Some f) None) (both_true _ _ (both_true (nat_le base s) (0 == 0) (le-leb base s l) refl) (le-leb f most le))
-
-half_twice : (n : ℕ) → 0 < n → 2 ^ n ≡ 2 ^ (n - 1) + 2 ^ (n - 1)
-half_twice zero h = absurd (omega arith)
-half_twice (suc n) h =
-    let e : suc n - 1 ≡ n =
-    omega arith in let d : 2 ^ suc n ≡ 2 ^ n + 2 ^ n = omega (arith, pow-add 2 n 1) in d ∙ sym (ap (λ m. 2 ^ m + 2 ^ m) e)
+    ∙ ap (λ b. cond b (Some f) None) (and_from _ _ (and_from (nat_le base s) (0 == 0) (le-leb base s l) refl) (le-leb f most le))
 
 signed_back : (scale n f : ℕ) → 0 < scale → 0 < n → f < 2 ^ n → signed_field n scale (not (is_positive n f)) (size_of n f * scale) ≡ Some f
 unfolding signed_field size_of is_positive
 signed_back scale n f positive signed lt =
-    let two = half_twice n signed in
+    let two = two_pow-halves n signed in
     elim (cases_lt f (2 ^ (n - 1))) [
       | inl l ↦
           ap (λ b. signed_field n scale (not b) (cond b f (2 ^ n - f) * scale)) (lt-ltb f (2 ^ (n - 1)) l)
@@ -142,8 +134,8 @@ sized_back file few first bits field le lt =
     ap (λ n. cond (same_vector_file file file && nat_lt (field % 2 ^ few) (2 ^ few) && nat_le first suffix
     && nat_lt n (2 ^ (bits - few))) (Some (n * 2 ^ few + field % 2 ^ few)) None) back
     ∙ ap (λ b. cond b (Some (field / 2 ^ few * 2 ^ few + field % 2 ^ few)) None)
-    (both_true _ _
-    (both_true _ _ (both_true _ _ (own_vector_file file) (lt-ltb (field % 2 ^ few) (2 ^ few) p.low)) (le-leb first suffix from))
+    (and_from _ _
+    (and_from _ _ (and_from _ _ (own_vector_file file) (lt-ltb (field % 2 ^ few) (2 ^ few) p.low)) (le-leb first suffix from))
     (lt-ltb (field / 2 ^ few) (2 ^ (bits - few)) p.high))
     ∙ ap Some p.whole
 
@@ -204,7 +196,7 @@ descending_back from bits field lt fits =
     let back : from - n ≡ field = omega arith in
     ap (λ m. cond (not false && nat_lt 0 n && nat_le n from && nat_lt m (2 ^ bits)) (Some m) None) back
     ∙ ap (λ b. cond b (Some field) None)
-    (both_true _ _ (both_true _ _ (lt-ltb 0 n some) (le-leb n from le)) (lt-ltb field (2 ^ bits) fits))
+    (and_from _ _ (and_from _ _ (lt-ltb 0 n some) (le-leb n from le)) (lt-ltb field (2 ^ bits) fits))
 
 -- ---- masks
 mask_back : (wide : Bool) (bits field : ℕ) → field < 8192

@@ -1,20 +1,11 @@
 -- The steps of a shape's way along the tokens.
-use Rattle.std.proofs.Common.{◌≡◌, ◌≢◌, ℕ, zero, suc, ◌+◌, ◌<◌, ◌≤◌, Bool, true, List, [], ◌∷◌, Option, Some, None, length, drop, get_or}
-use Rattle.std.proofs.Common.{refl, sym, ap, ap₂, ◌∙◌, arith, drop-cons, add-one}
-use Rattle.std.specs.List.{list_all}
+use Rattle.std.proofs.Common.{◌≡◌, ◌≢◌, ℕ, suc, ◌+◌, ◌<◌, ◌≤◌, List, [], ◌∷◌, Option, Some, None, length, drop, get_or}
+use Rattle.std.proofs.Common.{refl, sym, ap, ap₂, ◌∙◌, arith}
 use Rattle.std.proofs.Math.ListN.{drop_of_length-le}
-use Rattle.std.proofs.lemmas.Bool.{and_parts}
+use Rattle.std.proofs.lemmas.List.{drop_more}
 use Rattle.asm_tokens.specs.declared.token.Token.{Token}
 use Rattle.insn_text.specs.declared.item.Item.{Item}
 use Rattle.asm_operands.specs.Operands.{PartialWord, partial_after, taken_on, taken, count_on, taken_count}
-
-pub drop-at : {A : Type 0} (xs : List A) (at : ℕ) (d : A) → at < length xs → drop at xs ≡ get_or xs at d ∷ drop (at + 1) xs
-drop-at xs at d lt = rw (add-one, drop-cons xs at d) refl
-
-pub all-at : {A : Type 0} (p : A → Bool) (xs : List A) (at : ℕ) (d : A) → list_all p xs ≡ true → at < length xs → p (get_or xs at d) ≡ true
-all-at p [] at d e lt = absurd (omega arith)
-all-at p (x ∷ xs) zero d e lt = (and_parts (p x) (list_all p xs) e).0
-all-at p (x ∷ xs) (suc at) d e lt = let less : at < length xs = omega arith in all-at p xs at d (and_parts (p x) (list_all p xs) e).1 less
 
 -- ---- taken
 taken-cons : (i : Item) (is : List Item) (partial : PartialWord) (t : Token) (ts : List Token)
@@ -28,7 +19,7 @@ taken-at : (is : List Item) (ts : List Token) (at : ℕ) (partial : PartialWord)
     (partial_after (get_or is at d) partial (get_or ts at e))
 taken-at is ts at partial d e lt same =
     let less : at < length ts = omega arith in
-    ap₂ (λ (x : List Item) (y : List Token). taken x partial y) (drop-at is at d lt) (drop-at ts at e less)
+    ap₂ (λ (x : List Item) (y : List Token). taken x partial y) (drop_more is at d lt) (drop_more ts at e less)
     ∙ taken-cons (get_or is at d) (drop (at + 1) is) partial (get_or ts at e) (drop (at + 1) ts)
 
 pub taken-stops : (is : List Item) (ts : List Token) (at : ℕ) (partial : PartialWord) (d : Item) (e : Token) → at < length is
@@ -73,7 +64,7 @@ taken_count-at : (is : List Item) (ts : List Token) (at : ℕ) (partial : Partia
     → taken_count (drop at is) partial (drop at ts) ≡ count_on (λ next. taken_count (drop (at + 1) is) next (drop (at + 1) ts))
     (partial_after (get_or is at d) partial (get_or ts at e))
 taken_count-at is ts at partial d e lt less =
-    ap₂ (λ (x : List Item) (y : List Token). taken_count x partial y) (drop-at is at d lt) (drop-at ts at e less)
+    ap₂ (λ (x : List Item) (y : List Token). taken_count x partial y) (drop_more is at d lt) (drop_more ts at e less)
     ∙ taken_count-cons (get_or is at d) (drop (at + 1) is) partial (get_or ts at e) (drop (at + 1) ts)
 
 pub taken_count-stops : (is : List Item) (ts : List Token) (at all : ℕ) (partial : PartialWord) (d : Item) (e : Token) → at < length is

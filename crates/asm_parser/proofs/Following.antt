@@ -4,11 +4,11 @@ use Rattle.std.proofs.Common.{None, length, map, get_or, cond, refl, sym, ap, �
 use Rattle.std.proofs.Common.{arith}
 use Rattle.std.specs.Prelude.{codes}
 use Rattle.std.specs.List.{list_all, position}
-use Rattle.std.proofs.lemmas.Slice.Eq.{bytes_eq-Decides}
 use Rattle.std.proofs.lemmas.Bool.{not-true}
-use Rattle.asm_operands.proofs.TakenTokens.{all-at}
 use Rattle.std.specs.Str.{bytes_eq}
 use Rattle.std.proofs.lemmas.List.Quantifiers.{position-Some}
+use Rattle.std.proofs.lemmas.Option.{same_Some}
+use Rattle.plain_lemmas.proofs.Lists.{list_all-get_or, bytes_eq-true}
 use Rattle.insn_text.specs.declared.item.Text.{Text}
 use Rattle.insn_text.specs.declared.keywords.TheConstants.{MNEMONICS}
 use Rattle.insn_text.specs.Texts.{text_in}
@@ -27,9 +27,6 @@ use Rattle.asm_parser.proofs.Names.{undotted}
 use Rattle.asm_parser.proofs.Tied.{Always, Tied, IsStep, tied_step, ends_tied, IsThen, number_tied}
 use Rattle.asm_parser.proofs.Tied.{numbers_tied, name_tied, values_tied}
 
-some_is : {A : Type 0} (a b : A) → ◌≡◌ {A = Option A} (Some a) (Some b) → a ≡ b
-some_is a b e = cc
-
 -- ---- no instruction is called like a directive
 
 is_undotted : Text → Bool
@@ -39,17 +36,14 @@ all_undotted : list_all is_undotted MNEMONICS ≡ true
 unfolding is_undotted text_in
 all_undotted = refl
 
-same_text : (a b : List ℕ) → bytes_eq a b ≡ true → a ≡ b
-same_text a b e = (bytes_eq-Decides a b).0 e
-
 index_facts : (xs : List Text) (text : List ℕ) (n : ℕ) → list_all is_undotted xs ≡ true
     → position (λ t. bytes_eq (text_in (Some t)) text) xs ≡ Some n → (n < length xs) × ((get_or text 0 0 == 46) ≡ false)
 unfolding is_undotted
 index_facts [] text n a e = cc
 index_facts (x ∷ xs) text n a e =
     let p = position-Some (λ t. bytes_eq (text_in (Some t)) text) (x ∷ xs) n x e in
-    let same = same_text (text_in (Some (get_or (x ∷ xs) n x))) text p.1 in
-    (p.0, ap (λ ys. get_or ys 0 0 == 46) (sym same) ∙ not-true _ (all-at is_undotted (x ∷ xs) n x a p.0))
+    let same = bytes_eq-true (text_in (Some (get_or (x ∷ xs) n x))) text p.1 in
+    (p.0, ap (λ ys. get_or ys 0 0 == 46) (sym same) ∙ not-true _ (list_all-get_or is_undotted (x ∷ xs) n x a p.0))
 
 -- a name of the table stands in it, and is no directive's
 pub listed_name : (text : List ℕ) (n : ℕ) → index_in MNEMONICS text ≡ Some n → (n < length MNEMONICS) × (directive_of text ≡ None)
@@ -150,7 +144,7 @@ by_test : {A : Type 0} (name text : List ℕ) (a d : A) (rest : Option A) → (P
     → cond (bytes_eq name text) (Some a) rest ≡ Some d → P d
 by_test name text a d rest P f g e =
     elim (bytes_eq name text) as (λ b. bytes_eq name text ≡ b → cond b (Some a) rest ≡ Some d → P d) [
-      | true ↦ λ is h. subst P (some_is a d h) (f (same_text name text is))
+      | true ↦ λ is h. subst P (same_Some a d h) (f (bytes_eq-true name text is))
       | false ↦ λ is h. g h
     ] refl e
 
@@ -190,9 +184,9 @@ no_code : (code : Code) (column : ℕ) (d : Directive) → said_directive (Codes
 unfolding said_directive for_code
 no_code (Instruction word target) column d e f = cc
 no_code SupportRoutines column d e f =
-    let clash : true ≡ false = ap for_code (some_is AbiDirective d e) ∙ f in cc
+    let clash : true ≡ false = ap for_code (same_Some AbiDirective d e) ∙ f in cc
 no_code CallTail column d e f =
-    let clash : true ≡ false = ap for_code (some_is TailDirective d e) ∙ f in cc
+    let clash : true ≡ false = ap for_code (same_Some TailDirective d e) ∙ f in cc
 
 text_down : (says : Says) (t : Written) (xs : List Written) → said_directive says ≡ Some TextDirective → IsWritten says (t ∷ xs)
     → (a : Unit {0}) × IsThen (tt {0}) a xs × (IntoText ≡ says)

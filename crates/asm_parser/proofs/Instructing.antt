@@ -5,7 +5,7 @@ use Rattle.std.specs.Prelude.{option_map, is_some}
 use Rattle.std.specs.List.{list_any}
 use Rattle.std.proofs.lemmas.List.{take-map, map-append, length-map}
 use Rattle.std.proofs.Common.{append_assoc}
-use Rattle.std.proofs.lemmas.Option.{slice_get-map}
+use Rattle.std.proofs.lemmas.Option.{slice_get-map, same_Some, slice_get_within}
 use Rattle.a64_encode.specs.Either.{instruction_of}
 use Rattle.insn_text.specs.declared.keywords.TheConstants.{MNEMONICS}
 use Rattle.insn_text.specs.declared.item.Shape.{Shape}
@@ -27,10 +27,7 @@ use Rattle.asm_parser.specs.Grammar.{Written, written, target_written, IsInstruc
 use Rattle.asm_parser.specs.Grammar.{IsWhy, StopsAt, IsFirstFault}
 use Rattle.asm_parser.proofs.Tied.{Tied, IsStep, tied_same}
 use Rattle.asm_parser.proofs.Following.{said_directive, directive_is, listed_name, IsTold, told_further}
-use Rattle.asm_parser.proofs.Wants.{get_none, get_some, furthest_le, wants_by, whole_by, whole_from, IsRefused, refused}
-
-some_is : {A : Type 0} (a b : A) → ◌≡◌ {A = Option A} (Some a) (Some b) → a ≡ b
-some_is a b e = cc
+use Rattle.asm_parser.proofs.Wants.{get_none, furthest_le, wants_by, whole_by, whole_from, IsRefused, refused}
 
 abbrev toks : List Written → List Token
 toks xs = map (λ (t : Written). t.token) xs
@@ -73,7 +70,7 @@ module _ (t : Written) (name : ℕ) (named : is_name t.token ≡ true) (listed :
   down_instruction word column target xs j =
       let same : t ≡ j.first = (let e = j.all in cc) in
       let rest : xs ≡ j.operands = (let e = j.all in cc) in
-      let name_is : name ≡ j.name = some_is name j.name (sym listed ∙ ap (λ (u : Written). index_in MNEMONICS u.text) same ∙ j.listed) in
+      let name_is : name ≡ j.name = same_Some name j.name (sym listed ∙ ap (λ (u : Written). index_in MNEMONICS u.text) same ∙ j.listed) in
       let aims : target_written xs (target_of (shapes_of name) (toks xs)) ≡ target =
       ap₂ (λ n ys. target_written ys (target_of (shapes_of n) (toks ys))) name_is rest ∙ sym j.aims in
       let column_is : t.column ≡ column = ap (λ (u : Written). u.column) same ∙ sym j.column_is in
@@ -119,7 +116,7 @@ module _ (t : Written) (name : ℕ) (named : is_name t.token ≡ true) (listed :
 
     faults_here : (o : Option Written) → slice_get xs k ≡ o → ((w : ℕ) → first_word ss ts ≡ Some w → is_some (instruction_of w) ≡ true → ⊥)
         → StopsAt After IsMeaning xs k o
-    faults_here (Some u) is none = faulted (get_some xs k u is)
+    faults_here (Some u) is none = faulted (slice_get_within xs k u is)
     faults_here None is none = (
       omega (arith, small, get_none xs k is),
       λ says j m.
@@ -228,7 +225,7 @@ module _ (line : List ℕ) (l : Lexeme) (ls : List Lexeme) (name : ℕ) (named :
         s.means,
         λ b h.
             let d = down (written line l) name named listed b xs h in
-            let word : w ≡ d.0 = some_is w d.0 (sym s.word ∙ d.1) in
+            let word : w ≡ d.0 = same_Some w d.0 (sym s.word ∙ d.1) in
             same ∙ ap (λ v. said (written line l) name named listed v xs) word ∙ d.2,
       )
 

@@ -5,7 +5,8 @@ use Rattle.std.specs.Prelude.{◌≢◌, IfOk, IfErr, option_map}
 use Rattle.std.proofs.lemmas.List.{take-append-drop}
 use Rattle.std.proofs.lemmas.Bool.{cases_lt}
 use Rattle.std.proofs.Math.Seq.{take-add}
-use Rattle.std.proofs.lemmas.Option.{slice_get-map}
+use Rattle.std.proofs.lemmas.Option.{slice_get-map, slice_get_within}
+use Rattle.plain_lemmas.proofs.Options.{same_Err, same_Ok}
 use Rattle.insn_text.specs.declared.keywords.TheConstants.{MNEMONICS}
 use Rattle.asm_tokens.specs.declared.token.Lexeme.{Lexeme}
 use Rattle.asm_tokens.specs.Characters.{before_comment}
@@ -23,7 +24,6 @@ use Rattle.asm_parser.specs.Grammar.{Written, written, written_of, IsWritten, Is
 use Rattle.asm_parser.specs.Grammar.{StopsAt, IsFirstFault, IsLineWhy, IsReason, is_leading_name, column_of_written, IsFaultOf}
 use Rattle.asm_parser.proofs.Tied.{no_number_name}
 use Rattle.asm_parser.proofs.Following.{said_directive, directive_is, leads_name, IsTold, directive_told}
-use Rattle.asm_parser.proofs.Wants.{get_some}
 use Rattle.asm_parser.proofs.Instructing.{instruction_told}
 
 -- ---- the tokens
@@ -109,12 +109,6 @@ column_is : (line : List ℕ) (o : Option Lexeme) → column_of line o ≡ colum
 column_is line None = refl
 column_is line (Some l) = refl
 
-same_ok : (a b : SourceLine) → ◌≡◌ {A = Result SourceLine LineFault} (Ok a) (Ok b) → a ≡ b
-same_ok a b e = cc
-
-same_err : (a b : LineFault) → ◌≡◌ {A = Result SourceLine LineFault} (Err a) (Err b) → a ≡ b
-same_err a b e = cc
-
 module _ (line : List ℕ) where
   abbrev ls : List Lexeme
   ls = line_lexemes line
@@ -129,7 +123,7 @@ module _ (line : List ℕ) where
   answer_line : (answer : Answer Says) (said : SourceLine) → IsTold answer (written_of line) → line_answer line label ls answer ≡ Ok said
       → IsLine line said
   answer_line (Tells says) said h e =
-      let same = same_ok (record { label = label; says = says }) said e in
+      let same = same_Ok (record { label = label; says = says }) said e in
       subst (IsLine line) same (record { label = refl; tokens = h.0; meaning = h.1 })
   answer_line (Stops index kind) said h e = cc
 
@@ -158,7 +152,7 @@ module _ (line : List ℕ) where
     kind = kind;
     first = h;
     fault_is =
-        sym (same_err _ fault e) ∙ ap (fault_of_kind kind)
+        sym (same_Err _ fault e) ∙ ap (fault_of_kind kind)
         (column_is line (slice_get ls index) ∙ ap (column_of_written line) (sym (slice_get-map (written line) ls index)));
   }
 
@@ -207,7 +201,7 @@ front_goes ts m n le g =
 fault_low : (ts : List Written) (m n : ℕ) (p q : FaultKind) (o r : Option Written) → slice_get ts m ≡ o → slice_get ts n ≡ r
     → StopsAt IsWritten IsMeaning ts m o → StopsAt IsWritten IsMeaning ts n r → GoesOn IsWritten (take n ts) → m < n → ⊥
 fault_low ts m n p q (Some t) r e f s u g lt = s (front_goes ts (suc m) n (omega arith) g)
-fault_low ts m n p q None (Some t) e f s u g lt = let a = get_some ts n t f in let b = s.0 in omega arith
+fault_low ts m n p q None (Some t) e f s u g lt = let a = slice_get_within ts n t f in let b = s.0 in omega arith
 fault_low ts m n p q None None e f s u g lt = let a = u.0 in let b = s.0 in omega arith
 
 one_index : (ts : List Written) (m n : ℕ) (p q : FaultKind) → Fails ts m p → Fails ts n q → m ≡ n

@@ -1,10 +1,11 @@
 -- What the shapes of a name want after some tokens, and which tokens they take as a whole.
-use Rattle.std.proofs.Common.{◌≡◌, ℕ, zero, suc, ◌<◌, ◌≤◌, ◌==◌, ◌&&◌, ◌||◌, Bool, true, false, cond, List, [], ◌∷◌, ◌++◌, Option}
-use Rattle.std.proofs.Common.{Some, None, length, take, max, slice_get, refl, sym, ap, ap₂, ◌∙◌, arith, eqb-true, eq-eqb}
+use Rattle.std.proofs.Common.{◌≡◌, ℕ, zero, suc, ◌≤◌, ◌==◌, ◌||◌, Bool, true, false, cond, List, [], ◌∷◌, ◌++◌, Option}
+use Rattle.std.proofs.Common.{Some, None, length, take, max, slice_get, refl, sym, ap, ◌∙◌, arith, eqb-true, eq-eqb}
 use Rattle.std.specs.Prelude.{option_and_then, is_some}
 use Rattle.std.specs.List.{list_any}
-use Rattle.std.proofs.lemmas.Bool.{and_parts}
+use Rattle.std.proofs.lemmas.Bool.{and_parts, and_from, or_right}
 use Rattle.std.proofs.lemmas.List.{append-nil, length-take}
+use Rattle.std.proofs.lemmas.Option.{same_Some}
 use Rattle.a64_encode.specs.Either.{instruction_of}
 use Rattle.insn_text.specs.declared.item.Item.{Item}
 use Rattle.insn_text.specs.declared.item.RegisterFile.{RegisterFile}
@@ -23,20 +24,12 @@ use Rattle.asm_operands.specs.Operands.{is_number_item}
 use Rattle.asm_operands.specs.Operands.{wants_number, is_whole, OperandsSaid, Fails, Fault, said_or, if_meant, word_said}
 use Rattle.asm_operands.specs.Operands.{operand_fault, operands_said, target_of}
 
-some_is : {A : Type 0} (a b : A) → ◌≡◌ {A = Option A} (Some a) (Some b) → a ≡ b
-some_is a b e = cc
-
 -- ---- places of a list
 
 pub get_none : {A : Type 0} (xs : List A) (k : ℕ) → slice_get xs k ≡ None → length xs ≤ k
 get_none [] k e = omega arith
 get_none (x ∷ xs) zero e = cc
 get_none (x ∷ xs) (suc k) e = let le = get_none xs k e in omega arith
-
-pub get_some : {A : Type 0} (xs : List A) (k : ℕ) (x : A) → slice_get xs k ≡ Some x → k < length xs
-get_some [] k x e = cc
-get_some (y ∷ xs) zero x e = omega arith
-get_some (y ∷ xs) (suc k) x e = let lt = get_some xs k x e in omega arith
 
 -- ---- how far shapes reach
 
@@ -167,10 +160,6 @@ record HasShape (ss : List Shape) (P : Shape → Type 0) : Type 0 where
   reaches : (us : List Token) → taken_count_in shape us ≤ furthest ss us
   holds : P shape
 
-any_or : (a b : Bool) → b ≡ true → (a || b) ≡ true
-any_or true b e = refl
-any_or false b e = e
-
 first_shape : (ss : List Shape) (ts : List Token) (w : ℕ) → first_word ss ts ≡ Some w → HasShape ss (λ s. word_in s ts ≡ Some w)
 unfolding first_word furthest
 first_shape [] ts w e = cc
@@ -181,7 +170,7 @@ first_shape (s ∷ ss) ts w e =
           first_shape ss ts w h in
           record {
             shape = r.shape;
-            among = λ test t. any_or (test s) (list_any test ss) (r.among test t);
+            among = λ test t. or_right (test s) (list_any test ss) (r.among test t);
             reaches = (λ us. let le = r.reaches us in omega arith);
             holds = r.holds;
           }
@@ -217,9 +206,6 @@ some_shape test (s ∷ ss) e =
     either_word None b v g = (v, g)
     either_word (Some u) b v g = (u, refl)
 
-both_true : (a b : Bool) → a ≡ true → b ≡ true → (a && b) ≡ true
-both_true a b p q = ap₂ (λ x y. x && y) p q
-
 module _ (ss : List Shape) (ts : List Token) where
   abbrev k : ℕ
   k = furthest ss ts
@@ -239,7 +225,7 @@ module _ (ss : List Shape) (ts : List Token) where
   unfolding wants_number word_in
   wants_by t rest w n e =
       let h = first_shape ss (take k ts ++ t ∷ rest) w e in
-      h.among (wants_number k ts) (both_true _ _ (reach_here (t ∷ rest) w h)
+      h.among (wants_number k ts) (and_from _ _ (reach_here (t ∷ rest) w h)
       (taken_number (items_of h.shape) (fixed h.shape) k ts t rest w (furthest_le ss ts) n h.holds))
 
   -- the tokens are whole: some shape is
@@ -249,7 +235,7 @@ module _ (ss : List Shape) (ts : List Token) where
       let f : first_word ss (take k ts ++ []) ≡ Some w = ap (first_word ss) (append-nil (take k ts)) ∙ e in
       let h = first_shape ss (take k ts ++ []) w f in
       let size : length (take k ts ++ []) ≡ k = ap length (append-nil (take k ts)) ∙ omega (arith, length-take k ts, furthest_le ss ts) in
-      h.among (is_whole k ts) (both_true _ _ (reach_here [] w h)
+      h.among (is_whole k ts) (and_from _ _ (reach_here [] w h)
       (eq-eqb _ _ (taken_length (items_of h.shape) (fixed h.shape) (take k ts ++ []) w h.holds ∙ size)))
 
   pub whole_from : list_any (is_whole k ts) ss ≡ true → (w : ℕ) × (first_word ss (take k ts) ≡ Some w)
@@ -278,7 +264,7 @@ refused_if name ts f v false is m e = record {
   fault_is = sym (same_fault _ f e);
   none_meant =
       λ w g h. let same : v ≡ w =
-      some_is v w (sym is ∙ g) in let clash : false ≡ true = sym m ∙ ap (λ x. is_some (instruction_of x)) same ∙ h in cc;
+      same_Some v w (sym is ∙ g) in let clash : false ≡ true = sym m ∙ ap (λ x. is_some (instruction_of x)) same ∙ h in cc;
 }
 
 refused_by : (name : ℕ) (ts : List Token) (f : Fault) (o : Option ℕ) → first_word (shapes_of name) ts ≡ o

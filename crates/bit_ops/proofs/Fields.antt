@@ -3,15 +3,14 @@ use Rattle.std.proofs.Common.{◌≡◌, ◌≢◌, ◌↔◌, ◌⊎◌, ℕ, z
 use Rattle.std.proofs.Common.{ap, ap₂, ◌∙◌, subst, arith, inl, inr, lit<, Bool, true, false, nat_le, Option, Some, None, IfSome, IsNone}
 use Rattle.std.proofs.Common.{if◌then◌else◌, mod-eq_of_lt, eqb-true, mul-le-mul_right}
 use Rattle.std.proofs.Math.Nat.{add-mul-mod_self_right, add-mod-mod, mod-mod, pow-suc}
-use Rattle.std.proofs.lemmas.Bool.{cases_lt, cases_order, both_ways, cases_Bool}
-use Rattle.std.proofs.lemmas.Bool.Decides.{nat_tests}
+use Rattle.std.proofs.lemmas.Bool.{cases_lt, cases_order, both_ways, cases_Bool, ne_eqb, eq-eqb, lt-leb, le-leb}
 use Rattle.std.proofs.lemmas.Nat.{pow_pos, pow-add, mod_below, div-add-mod'}
 use Rattle.std.proofs.lemmas.Nat.Bits.{bit_at-lt}
 use Rattle.bit_ops.specs.Bits.{digit_at, number_of_digits, width_of}
 use Rattle.bit_ops.specs.Sums.{bool_number}
 use Rattle.bit_ops.specs.Masks.{highest_one, length_of, size_of, ones_of, turn_of, mask_of, is_reserved, bit_mask_of, starts_at, IsMask}
 use Rattle.bit_ops.specs.Masks.{IsFieldsOf}
-use Rattle.bit_ops.proofs.MaskBits.{below_power, le_true, le_false, size_half, size_small, bool_number-lt, none-of, some-of, mask-facts}
+use Rattle.bit_ops.proofs.MaskBits.{below_power, size_half, size_small, bool_number-lt, none-of, some-of, mask-facts}
 
 -- a word of equal elements of `size` bits, each of which has ones + 1 ones, rotated right by `turn`
 pub record IsPeriodic (word width size turn ones : ℕ) : Type 0 where
@@ -49,12 +48,6 @@ bit_is_zero : (b : Bool) → (bool_number b == 0) ≡ not b
 bit_is_zero true = refl
 bit_is_zero false = refl
 
-eq_true : (a b : ℕ) → a ≡ b → (a == b) ≡ true
-eq_true a b e = grind (arith, nat_tests)
-
-eq_false : (a b : ℕ) → a ≢ b → (a == b) ≡ false
-eq_false a b e = grind (arith, nat_tests)
-
 -- a one at place t of the element, and none before it, only where t is 0
 edge : (size ones t : ℕ) → ones + 1 < size → t < size → (nat_le t ones && not (nat_le ((t + (size - 1)) % size) ones)) ≡ (t == 0)
 edge size ones t room lt = elim (cases_lt 0 t) [
@@ -62,14 +55,14 @@ edge size ones t room lt = elim (cases_lt 0 t) [
       let z : t ≡ 0 = omega arith in
       let last : (t + (size - 1)) % size ≡ size - 1 =
       ap (λ k. k % size) (let s : t + (size - 1) ≡ size - 1 = omega arith in s) ∙ mod-eq_of_lt (omega arith) in
-      rw (le_true t ones (omega arith), le_false ((t + (size - 1)) % size) ones (omega arith), eq_true t 0 z) refl
+      rw (le-leb t ones (omega arith), lt-leb ((t + (size - 1)) % size) ones (omega arith), eq-eqb t 0 z) refl
   | inl some ↦
       let one : t + (size - 1) ≡ t - 1 + 1 * size = omega arith in
       let back : (t + (size - 1)) % size ≡ t - 1 =
       ap (λ k. k % size) one ∙ add-mul-mod_self_right (t - 1) 1 size ∙ mod-eq_of_lt (omega arith) in
       elim (cases_lt ones t) [
-        | inl above ↦ rw (le_false t ones above, eq_false t 0 (omega arith)) refl
-        | inr within ↦ rw (le_true t ones within, le_true ((t + (size - 1)) % size) ones (omega arith), eq_false t 0 (omega arith)) refl
+        | inl above ↦ rw (lt-leb t ones above, ne_eqb t 0 (omega arith)) refl
+        | inr within ↦ rw (le-leb t ones within, le-leb ((t + (size - 1)) % size) ones (omega arith), ne_eqb t 0 (omega arith)) refl
       ]
 ]
 
@@ -94,7 +87,7 @@ start-on word width size turn ones i p lt e = eqb-true _ _ (sym (start-is word w
 
 pub start-off : (word width size turn ones i : ℕ) → IsPeriodic word width size turn ones → i < width → starts_at word width i ≡ false
     → (i + turn) % size ≡ 0 → ⊥
-start-off word width size turn ones i p lt e z = both_ways _ (sym (start-is word width size turn ones i p lt) ∙ e) (eq_true _ _ z)
+start-off word width size turn ones i p lt e z = both_ways _ (sym (start-is word width size turn ones i p lt) ∙ e) (eq-eqb _ _ z)
 
 -- ---- the first start
 
@@ -229,13 +222,13 @@ ones-are word width size turn ones first count p z le on off =
       | inr (inl less) ↦
           let bit = run_bit word width size turn ones first count p z in
           let at : count % size ≡ count = mod-eq_of_lt (omega arith) in
-          let one : bool_number (nat_le (count % size) ones) ≡ 1 = ap bool_number (le_true (count % size) ones (omega arith)) in
+          let one : bool_number (nat_le (count % size) ones) ≡ 1 = ap bool_number (le-leb (count % size) ones (omega arith)) in
           let zero' = off (omega arith) in
           absurd (omega arith)
       | inr (inr more) ↦
           let bit = run_bit word width size turn ones first (ones + 1) p z in
           let at : (ones + 1) % size ≡ ones + 1 = mod-eq_of_lt full in
-          let none : bool_number (nat_le ((ones + 1) % size) ones) ≡ 0 = ap bool_number (le_false ((ones + 1) % size) ones (omega arith)) in
+          let none : bool_number (nat_le ((ones + 1) % size) ones) ≡ 0 = ap bool_number (lt-leb ((ones + 1) % size) ones (omega arith)) in
           let one = on (ones + 1) more in
           absurd (omega arith)
     ]
@@ -247,27 +240,27 @@ unfolding highest_one
 highest-spec zero n lt some = absurd (omega arith)
 highest-spec (suc k) n lt some = elim (cases_lt n (2 ^ k)) [
   | inl under ↦
-      let e : highest_one (suc k) n ≡ highest_one k n = rw (le_false (2 ^ k) n under) refl in
+      let e : highest_one (suc k) n ≡ highest_one k n = rw (lt-leb (2 ^ k) n under) refl in
       subst (λ h. 0 < h → (2 ^ h ≤ n) × (n < 2 ^ suc h)) (sym e) (highest-spec k n under) some
   | inr over ↦
-      let e : highest_one (suc k) n ≡ k = rw (le_true (2 ^ k) n over) refl in
+      let e : highest_one (suc k) n ≡ k = rw (le-leb (2 ^ k) n over) refl in
       subst (λ h. (2 ^ h ≤ n) × (n < 2 ^ suc h)) (sym e) (over, lt)
 ]
 
 highest-lt : (limit n : ℕ) → highest_one (suc limit) n < suc limit
 unfolding highest_one
 highest-lt zero n = elim (cases_lt n (2 ^ 0)) [
-  | inl under ↦ rw (le_false (2 ^ 0) n under) (lit< tt)
-  | inr over ↦ rw (le_true (2 ^ 0) n over) (lit< tt)
+  | inl under ↦ rw (lt-leb (2 ^ 0) n under) (lit< tt)
+  | inr over ↦ rw (le-leb (2 ^ 0) n over) (lit< tt)
 ]
 highest-lt (suc k) n =
     let rest = highest-lt k n in
     elim (cases_lt n (2 ^ suc k)) [
       | inl under ↦
-          let e : highest_one (suc (suc k)) n ≡ highest_one (suc k) n = rw (le_false (2 ^ suc k) n under) refl in
+          let e : highest_one (suc (suc k)) n ≡ highest_one (suc k) n = rw (lt-leb (2 ^ suc k) n under) refl in
           omega arith
       | inr over ↦
-          let e : highest_one (suc (suc k)) n ≡ suc k = rw (le_true (2 ^ suc k) n over) refl in
+          let e : highest_one (suc (suc k)) n ≡ suc k = rw (le-leb (2 ^ suc k) n over) refl in
           omega arith
     ]
 
@@ -356,7 +349,7 @@ free-parts : (n wide : Bool) (imms : ℕ) → is_reserved n imms wide ≡ false 
 unfolding is_reserved
 free-parts n wide imms e =
     let parts = or_parts (n && not wide) (length_of n imms == 0) (ones_of n imms == size_of n imms - 1) e in
-    (narrow_one n wide parts.0, (λ z. both_ways _ parts.1 (eq_true _ _ z)), (λ z. both_ways _ parts.2 (eq_true _ _ z)))
+    (narrow_one n wide parts.0, (λ z. both_ways _ parts.1 (eq-eqb _ _ z)), (λ z. both_ways _ parts.2 (eq-eqb _ _ z)))
 
 whole-times : (wide : Bool) (l : ℕ) → l < 7 → (wide ≡ false → l < 6) → width_of wide ≡ 2 ^ (width_log wide - l) * 2 ^ l
 whole-times true l lt short = let e : 6 - l + l ≡ 6 = omega arith in ap (λ k. 2 ^ k) (sym e) ∙ pow-add 2 (6 - l) l
@@ -389,8 +382,8 @@ bit_from : (d a b : ℕ) → d < 2 → (d ≡ 1) ↔ (a ≤ b) → d ≡ bool_nu
 bit_from d a b lt iff = elim (cases_lt b a) [
   | inl less ↦
       let off : d ≢ 1 = λ e. let le = iff.0 e in omega arith in
-      (let z : d ≡ 0 = omega arith in z) ∙ ap bool_number (sym (le_false a b less))
-  | inr more ↦ iff.1 more ∙ ap bool_number (sym (le_true a b more))
+      (let z : d ≡ 0 = omega arith in z) ∙ ap bool_number (sym (lt-leb a b less))
+  | inr more ↦ iff.1 more ∙ ap bool_number (sym (le-leb a b more))
 ]
 
 pub periodic-of : (n wide : Bool) (imms immr word : ℕ) → IsFieldsOf n imms immr wide word

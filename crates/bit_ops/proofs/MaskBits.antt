@@ -3,8 +3,7 @@ use Rattle.std.proofs.Common.{◌≡◌, ◌↔◌, ℕ, zero, suc, ◌+◌, ◌
 use Rattle.std.proofs.Common.{◌∙◌, subst, arith, inl, inr, lit<, lit≤, Bool, true, false, nat_le, Some, None, mod-eq_of_lt}
 use Rattle.std.proofs.Math.Nat.{pow-le-pow_right, add-mul-mod_self_right}
 use Rattle.std.proofs.Math.Pow.{mod-mod-pow}
-use Rattle.std.proofs.lemmas.Bool.{cases_lt}
-use Rattle.std.proofs.lemmas.Bool.Decides.{nat_tests}
+use Rattle.std.proofs.lemmas.Bool.{cases_lt, lt-leb, le-leb}
 use Rattle.std.proofs.lemmas.Nat.{pow_below, pow_pos, pow-add, shr-shr, shr_split, shr_below, mod_below, mul-add-lt, or_lt, shr_le}
 use Rattle.std.proofs.lemmas.Nat.{leading_top}
 use Rattle.std.proofs.lemmas.Nat.Bits.{bit_at_cat_low, bit_at_cat_high, bit_at_ones, bit_at_ones_above}
@@ -25,20 +24,14 @@ below_power a b n p q = elim (cases_lt a b) [
       absurd (omega arith)
 ]
 
-pub le_true : (a b : ℕ) → a ≤ b → nat_le a b ≡ true
-le_true a b h = grind (arith, nat_tests)
-
-pub le_false : (a b : ℕ) → b < a → nat_le a b ≡ false
-le_false a b h = grind (arith, nat_tests)
-
 pub highest_one-is : (limit j n : ℕ) → 2 ^ j ≤ n → n < 2 ^ suc j → j < limit → highest_one limit n ≡ j
 unfolding highest_one
 highest_one-is zero j n p q lt = absurd (omega arith)
 highest_one-is (suc k) j n p q lt = elim (cases_lt n (2 ^ k)) [
-  | inl under ↦ rw (le_false (2 ^ k) n under) (highest_one-is k j n p q (below_power j k n p under))
+  | inl under ↦ rw (lt-leb (2 ^ k) n under) (highest_one-is k j n p q (below_power j k n p under))
   | inr over ↦
       let back = below_power k (suc j) n over q in
-      rw (le_true (2 ^ k) n over) (omega arith)
+      rw (le-leb (2 ^ k) n over) (omega arith)
 ]
 
 pub length_none : (n : Bool) (imms bits : ℕ) → bits ≡ bool_number n * 64 + (63 - imms % 64) → bits ≡ 0 → 0 ≡ length_of n imms
@@ -77,8 +70,8 @@ first_run length ones lt = record {
   bits = λ i l.
       let e : i ≡ i % 2 ^ length = sym (mod-eq_of_lt l) in
       elim (cases_lt ones i) [
-        | inl above ↦ bit_at_ones_above (ones + 1) i (omega arith) ∙ ap bool_number (sym (le_false (i % 2 ^ length) ones (omega arith)))
-        | inr within ↦ bit_at_ones (ones + 1) i (omega arith) ∙ ap bool_number (sym (le_true (i % 2 ^ length) ones (omega arith)))
+        | inl above ↦ bit_at_ones_above (ones + 1) i (omega arith) ∙ ap bool_number (sym (lt-leb (i % 2 ^ length) ones (omega arith)))
+        | inr within ↦ bit_at_ones (ones + 1) i (omega arith) ∙ ap bool_number (sym (le-leb (i % 2 ^ length) ones (omega arith)))
       ];
 }
 
@@ -188,11 +181,11 @@ mask-is n wide imms immr length ones r word short e f g turn small bits =
 one_iff : (a b : ℕ) → (bool_number (nat_le a b) ≡ 1) ↔ (a ≤ b)
 one_iff a b = elim (cases_lt b a) [
   | inl less ↦ let e =
-      le_false a b less in (
+      lt-leb a b less in (
         λ o. absurd (let z : bool_number (nat_le a b) ≡ 0 = ap bool_number e in omega arith),
         λ le. absurd (omega arith),
       )
-  | inr more ↦ (λ o. more, λ le. ap bool_number (le_true a b more))
+  | inr more ↦ (λ o. more, λ le. ap bool_number (le-leb a b more))
 ]
 
 pub mask-facts : (n wide : Bool) (imms immr : ℕ) → IsMask n imms immr wide (mask_of n imms immr wide)

@@ -18,6 +18,7 @@ pub enum ShiftKind {
 
 /// The word, shifted by `amount` bits: a word of 64 bits where `wide`, else the low 32 bits of `value`,
 /// and the upper half of the result is zero.
+#[inline(always)]
 #[tactic(auto, unfolding(crate::specs::Shifts::shifted))]
 pub fn shift(value: u64, kind: ShiftKind, amount: u32, wide: bool) -> u64
     requires { amount < width_of wide }
@@ -34,6 +35,7 @@ pub fn shift(value: u64, kind: ShiftKind, amount: u32, wide: bool) -> u64
 }
 
 /// The word over 2 ^ amount, as a signed number that is rounded down.
+#[inline(always)]
 #[tactic(auto, unfolding(crate::specs::Shifts::shifted))]
 fn shift_by_sign(word: u64, amount: u32, wide: bool) -> u64
     requires amount { amount < width_of wide }
@@ -49,6 +51,7 @@ fn shift_by_sign(word: u64, amount: u32, wide: bool) -> u64
 }
 
 /// The word, rotated to the right.
+#[inline(always)]
 #[tactic(auto, unfolding(crate::specs::Shifts::shifted))]
 fn rotate(word: u64, amount: u32, wide: bool) -> u64
     requires amount { amount < width_of wide }

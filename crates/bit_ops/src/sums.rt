@@ -13,6 +13,7 @@ pub struct Nzcv {
 
 /// The sum of two words and a carry, with its flags: words of 64 bits where `wide`, else the low 32 bits
 /// of `a` and `b`, and the upper half of the sum is zero.
+#[inline(always)]
 #[tactic(auto, unfolding(crate::specs::Sums::sum_of, crate::specs::Sums::sum_flags))]
 pub fn add_carry(a: u64, b: u64, carry: bool, wide: bool) -> (u64, Nzcv)
     ensures sum { result.0 ≡ sum_of wide (a % word_size wide) (b % word_size wide) (bool_number carry) }
@@ -29,6 +30,7 @@ pub fn add_carry(a: u64, b: u64, carry: bool, wide: bool) -> (u64, Nzcv)
 }
 
 /// The sum of two words of 64 bits and a carry.
+#[inline(always)]
 #[tactic(auto, unfolding(crate::specs::Sums::sum_of, crate::specs::Sums::sum_flags))]
 fn add_wide(a: u64, b: u64, carry: bool) -> (u64, Nzcv)
     ensures sum { result.0 ≡ sum_of true a b (bool_number carry) }
@@ -44,6 +46,7 @@ fn add_wide(a: u64, b: u64, carry: bool) -> (u64, Nzcv)
 }
 
 /// The sum of two words of 32 bits and a carry.
+#[inline(always)]
 #[tactic(auto, unfolding(crate::specs::Sums::sum_of, crate::specs::Sums::sum_flags))]
 fn add_narrow(a: u32, b: u32, carry: bool) -> (u32, Nzcv)
     ensures sum { result.0 ≡ sum_of false a b (bool_number carry) }

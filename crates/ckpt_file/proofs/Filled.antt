@@ -1,10 +1,11 @@
 -- The fields of a thread's state are as the table of a checkpoint says.
 use Rattle.std.proofs.Common.{◌≡◌, ℕ, ◌+◌, ◌*◌, ◌/◌, ◌%◌, ◌<◌, ◌≤◌, ◌^◌, ◌==◌, ◌++◌, Bool, true, false, List, [], ◌∷◌, length, map}
 use Rattle.std.proofs.Common.{refl, ap, sym, ◌∙◌, subst, arith}
-use Rattle.std.specs.Prelude.{nat_lt, nat_le, if◌then◌else◌}
+use Rattle.std.specs.Prelude.{nat_lt, if◌then◌else◌}
 use Rattle.std.specs.FinMap.{entries, len}
 use Rattle.std.proofs.lemmas.Bool.Decides.{nat_tests}
 use Rattle.std.proofs.lemmas.List.{length-map, length-append}
+use Rattle.std.proofs.lemmas.Bool.{le-leb, and_from}
 use Rattle.bit_ops.specs.Sums.{bool_number}
 use Rattle.byteorder.specs.Endian.{little_bytes}
 use Rattle.sm_types.specs.declared.numbers.Numbers.{Numbers}
@@ -26,7 +27,6 @@ use Rattle.ckpt_file.proofs.Filling.{each_of_all, AreOfSize, fields_fill}
 use Rattle.ckpt_file.proofs.Parts.{AreNarrow, IsProgress, first_fill, thread_fill, words_of_size, system_fill, vectors_fill}
 use Rattle.ckpt_file.proofs.Parts.{handlers_fill, output_fill, pages_fill}
 use Rattle.ckpt_file.proofs.Parts.{IsNarrowEntry, AreHandlersPast}
-use Rattle.ckpt_file.proofs.Modes.{and_both}
 use Rattle.ckpt_file.proofs.Sized.{sized, sized_predicates}
 use Rattle.ckpt_file.proofs.Puts.{pages_count}
 use Rattle.ckpt_file.proofs.Kept.{HasPlaces, memory_past, memory_narrow, each_end}
@@ -50,7 +50,7 @@ flags_good s =
     let first : (value % 2 ^ 28 == 0) ≡ true = ap (λ r. r == 0) low in
     let high : value < 2 ^ 32 = omega (arith, n, z, c, v) in
     let second : nat_lt value (2 ^ 32) ≡ true = below_test value (2 ^ 32) high in
-    and_both (value % 2 ^ 28 == 0) (nat_lt value (2 ^ 32)) first second
+    and_from (value % 2 ^ 28 == 0) (nat_lt value (2 ^ 32)) first second
   where
     below_test : (a b : ℕ) → a < b → nat_lt a b ≡ true
     below_test a b l = grind (arith, nat_tests)
@@ -129,9 +129,6 @@ pub record IsInTable (report : Report) (s : State) (thread events : ℕ) : Type 
   pub places : HasPlaces s.core.memory
   pub few_pages : len s.core.memory.perm ≤ 4096
 
-at_most_test : (a b : ℕ) → a ≤ b → nat_le a b ≡ true
-at_most_test a b l = grind (arith, nat_tests)
-
 -- from the pages on, from the output on, and so on
 abbrev pub output_left : State → List (List ℕ)
 output_left s = output_values s.output ++ page_values (pages_in s.core.memory)
@@ -149,18 +146,18 @@ module _ (report : Report) (s : State) (thread events : ℕ) (good : IsInTable r
       let few : length (pages_in s.core.memory) ≤ 4096 = omega (arith, pages_count s.core.memory, good.few_pages) in
       pages_fill (pages_in s.core.memory) (omega (arith, few))
       (memory_narrow s.core.memory (each_of_all (λ (e : ℕ × ℕ). (e.0 < 2 ^ 52) × (e.1 < 2 ^ 8)) (entries s.core.memory.perm) wide.pages))
-      (at_most_test (length (pages_in s.core.memory)) 4096 few) (memory_past s.core.memory good.places)
+      (le-leb (length (pages_in s.core.memory)) 4096 few) (memory_past s.core.memory good.places)
 
   output_filled : IsFilled from_output (output_left s)
   output_filled =
       let few : length s.output < 2 ^ 32 = omega (arith, good.few_bytes) in
       output_fill pages_of s.output (page_values (pages_in s.core.memory)) few
-      (at_most_test (length s.output) 1048576 good.few_bytes) pages_filled
+      (le-leb (length s.output) 1048576 good.few_bytes) pages_filled
 
   handlers_filled : IsFilled from_handlers (handlers_left s)
   handlers_filled =
       handlers_fill from_output (entries s.handlers) (output_left s) wide.few_handlers
-      (each_of_all IsNarrowEntry (entries s.handlers) wide.handlers) (at_most_test (length (entries s.handlers)) 62 good.few_handlers)
+      (each_of_all IsNarrowEntry (entries s.handlers) wide.handlers) (le-leb (length (entries s.handlers)) 62 good.few_handlers)
       good.handlers output_filled
 
   vectors_filled : IsFilled (from_vectors report (svcr_of s.core)) (vectors_left s)

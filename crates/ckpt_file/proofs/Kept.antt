@@ -1,19 +1,20 @@
 -- What the table of a checkpoint asks of the handlers and the pages of a thread.
 use Rattle.std.proofs.Common.{◌≡◌, ◌≢◌, ℕ, zero, suc, ◌+◌, ◌*◌, ◌%◌, ◌<◌, ◌≤◌, ◌^◌, ◌==◌, ◌&&◌, ◌++◌, Bool, true, false, not, cond, T}
-use Rattle.std.proofs.Common.{inl, inr, List, [], ◌∷◌, length, map, Option, Some, None, refl, ap, ◌∙◌, arith}
+use Rattle.std.proofs.Common.{inl, inr, List, [], ◌∷◌, length, map, Some, None, refl, ap, ◌∙◌, arith}
 use Rattle.std.specs.Prelude.{slice_index, nat_lt, nat_le}
 use Rattle.std.specs.FinMap.{FinMap, entries, entries_sorted, find, get, get-entries}
 use Rattle.std.specs.FinMap.Entries.{below_all, is_sorted}
-use Rattle.std.specs.Ordering.{nat_cmp, eq_by_cmp, is_lt}
-use Rattle.std.proofs.lemmas.Bool.{cases_Bool, cond_both}
+use Rattle.std.specs.Ordering.{nat_cmp, eq_by_cmp}
+use Rattle.std.proofs.lemmas.Bool.{cases_Bool, cond_both, and_from}
 use Rattle.std.proofs.lemmas.Bool.Decides.{nat_tests}
+use Rattle.plain_lemmas.proofs.Tests.{eq_by_cmp-self, and_second, and_first, is_lt-true}
+use Rattle.plain_lemmas.proofs.Options.{none_not_some}
 use Rattle.paged_memory.specs.Memory.{AddressSpace, IsWhole, bytes_from}
 use Rattle.kernel_contexts.specs.HandlerTable.{set_from}
 use Rattle.ckpt_fields.specs.Rows.{is_signal_past, is_page_address}
 use Rattle.ckpt_file.specs.Checkpoint.{pages_in}
 use Rattle.ckpt_file.proofs.Filling.{Each}
 use Rattle.ckpt_file.proofs.Parts.{IsNarrowEntry, AreHandlersPast, IsNarrowPage, ArePagesPast}
-use Rattle.ckpt_file.proofs.Modes.{and_both}
 
 -- ---- lists
 
@@ -30,7 +31,7 @@ each_end P (x ∷ xs) y h k = (h.0, each_end P xs y h.1 k)
 signal_test : (last n : ℕ) → last < n → n ≤ 62 → is_signal_past last n ≡ true
 signal_test last n l m =
     let first : nat_lt last n ≡ true = grind (arith, nat_tests) in
-    let second : nat_le n 62 ≡ true = grind (arith, nat_tests) in and_both (nat_lt last n) (nat_le n 62) first second
+    let second : nat_le n 62 ≡ true = grind (arith, nat_tests) in and_from (nat_lt last n) (nat_le n 62) first second
 
 some_address : (a : ℕ) → (a == 0) ≡ false → nat_lt 0 a ≡ true
 some_address a e = grind (arith, nat_tests)
@@ -72,32 +73,18 @@ table_few (x ∷ xs) l e = let few = few_set 1 xs in rw e (omega (arith, few, l)
 
 -- ---- pages
 
-below_key : (k n : ℕ) → is_lt (nat_cmp k n) ≡ true → k < n
-below_key k n e = grind (arith, nat_tests)
-
-and_first : (a b : Bool) → (a && b) ≡ true → a ≡ true
-and_first true b e = refl
-and_first false b e = e
-
-and_second : (a b : Bool) → (a && b) ≡ true → b ≡ true
-and_second true b e = e
-and_second false b e = cc
-
 each_past : (k : ℕ) (es : List (ℕ × ℕ)) → below_all nat_cmp k es ≡ true → Each (λ (e : ℕ × ℕ). k < e.0) es
 each_past k [] h = tt
-each_past k (e ∷ es) h = (below_key k e.0 (and_first _ _ h), each_past k es (and_second _ _ h))
+each_past k (e ∷ es) h = (is_lt-true k e.0 (and_first _ _ h), each_past k es (and_second _ _ h))
 
 not_here : (n k : ℕ) → k < n → eq_by_cmp nat_cmp n k ≡ false
 not_here n k l = grind (arith, nat_tests)
-
-here : (k : ℕ) → eq_by_cmp nat_cmp k k ≡ true
-here k = grind (arith, nat_tests)
 
 -- each is found by its key
 each_found : (es : List (ℕ × ℕ)) → is_sorted nat_cmp es ≡ true → Each (λ (e : ℕ × ℕ). find nat_cmp e.0 es ≡ Some e.1) es
 each_found [] h = tt
 each_found (g ∷ es) h = (
-  ap (λ b. cond b (Some g.1) (find nat_cmp g.0 es)) (here g.0),
+  ap (λ b. cond b (Some g.1) (find nat_cmp g.0 es)) (eq_by_cmp-self g.0),
   each_more {P = λ (e : ℕ × ℕ). g.0 < e.0} {Q = λ (e : ℕ × ℕ). find nat_cmp e.0 es ≡ Some e.1}
       {R = λ (e : ℕ × ℕ). find nat_cmp e.0 (g ∷ es) ≡ Some e.1}
       (λ e l f. ap (λ b. cond b (Some g.1) (find nat_cmp e.0 es)) (not_here e.0 g.0 l) ∙ f) es
@@ -120,9 +107,6 @@ true_of : (b : Bool) → T b → b ≡ true
 true_of true h = refl
 true_of false h = absurd h
 
-not_none : {X : Type 0} (x : X) (o : Option X) → o ≡ Some x → o ≢ None
-not_none x o e f = cc
-
 pub each_entry : (m : AddressSpace) → HasPlaces m → Each IsPageEntry (entries m.perm)
 each_entry m h =
     let found = each_found (entries m.perm) (true_of (is_sorted nat_cmp (entries m.perm)) (entries_sorted m.perm)) in
@@ -133,10 +117,10 @@ each_entry m h =
     let there : get m.perm e.0 ≡ Some e.1 = get-entries m.perm e.0 ∙ f in
     record {
       low = elim (cases_Bool (nat_le (2 ^ 52) e.0)) [
-        | inl high ↦ absurd (not_none e.1 (get m.perm e.0) there (h.low e.0 (at_most (2 ^ 52) e.0 high)))
+        | inl high ↦ absurd (none_not_some (get m.perm e.0) e.1 (h.low e.0 (at_most (2 ^ 52) e.0 high)) there)
         | inr low ↦ less_of (2 ^ 52) e.0 low
       ];
-      private = λ same. not_none e.1 (get m.perm e.0) there (ap (get m.perm) same ∙ h.private);
+      private = λ same. none_not_some (get m.perm e.0) e.1 (ap (get m.perm) same ∙ h.private) there;
       flags = h.whole.flags e.0 e.1 there;
     }) (entries m.perm) found found
   where
@@ -162,8 +146,8 @@ address_test least n l p =
     let second : (4096 * n % 4096 == 0) ≡ true = ap (λ r. r == 0) whole in
     let apart : 4096 * n ≢ 0x7F0000000000 = λ e. p (omega (arith, e)) in
     let third : not (4096 * n == 0x7F0000000000) ≡ true = apart_test (4096 * n) 0x7F0000000000 apart in
-    and_both (nat_le least (4096 * n) && (4096 * n % 4096 == 0)) (not (4096 * n == 0x7F0000000000))
-    (and_both (nat_le least (4096 * n)) (4096 * n % 4096 == 0) first second) third
+    and_from (nat_le least (4096 * n) && (4096 * n % 4096 == 0)) (not (4096 * n == 0x7F0000000000))
+    (and_from (nat_le least (4096 * n)) (4096 * n % 4096 == 0) first second) third
   where
     apart_test : (a b : ℕ) → a ≢ b → not (a == b) ≡ true
     apart_test a b e = grind (arith, nat_tests)

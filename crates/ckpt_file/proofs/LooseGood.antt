@@ -4,6 +4,8 @@ use Rattle.std.proofs.Common.{map, Some, refl, ap, ◌∙◌, subst, arith}
 use Rattle.std.specs.Prelude.{nat_lt, nat_le, not, slice_get, slice_index}
 use Rattle.std.proofs.lemmas.Bool.Decides.{nat_tests}
 use Rattle.std.proofs.lemmas.List.{length-map, length-append}
+use Rattle.std.proofs.lemmas.Bool.{eqb-true, leb-true, ltb-true}
+use Rattle.plain_lemmas.proofs.Tests.{ne_from_not_eqb, and_second, and_first}
 use Rattle.byteorder.specs.Endian.{little_bytes}
 use Rattle.sm_types.specs.Options.{numbers_of}
 use Rattle.sm_types.specs.declared.numbers.Numbers.{Numbers}
@@ -27,35 +29,23 @@ use Rattle.ckpt_file.proofs.Filling.{Each, each_of_all, all_of_each, fields_good
 use Rattle.ckpt_file.proofs.Parts.{first_good, thread_good, system_good, vectors_good, handlers_good, output_good, pages_good}
 use Rattle.ckpt_file.proofs.Parts.{IsProgress, IsSystem}
 use Rattle.ckpt_file.proofs.Parts.{IsNarrowEntry, IsNarrowPage, AreHandlersPast, ArePagesPast}
-use Rattle.ckpt_file.proofs.Modes.{and_first, and_second, length_is, array_bytes, depth_is, unmasked_by}
-
-below : (a b : ℕ) → nat_lt a b ≡ true → a < b
-below a b e = grind (arith, nat_tests)
-
-within : (a b : ℕ) → nat_le a b ≡ true → a ≤ b
-within a b e = grind (arith, nat_tests)
-
-equal : (a b : ℕ) → (a == b) ≡ true → a ≡ b
-equal a b e = grind (arith, nat_tests)
-
-apart : (a b : ℕ) → not (a == b) ≡ true → a ≢ b
-apart a b e = grind (arith, nat_tests)
+use Rattle.ckpt_file.proofs.Modes.{length_is, array_bytes, depth_is, unmasked_by}
 
 -- ---- handlers
 
 signal_good : (last n : ℕ) → is_signal_past last n ≡ true → is_signal n ≡ true
 signal_good last n e =
-    let low : last < n = below last n (and_first (nat_lt last n) (nat_le n 62) e) in
-    let high : n ≤ 62 = within n 62 (and_second (nat_lt last n) (nat_le n 62) e) in
+    let low : last < n = ltb-true last n (and_first (nat_lt last n) (nat_le n 62) e) in
+    let high : n ≤ 62 = leb-true n 62 (and_second (nat_lt last n) (nat_le n 62) e) in
     grind (arith, nat_tests)
 
 later : (last n : ℕ) → is_signal_past last n ≡ true → last < n
-later last n e = below last n (and_first (nat_lt last n) (nat_le n 62) e)
+later last n e = ltb-true last n (and_first (nat_lt last n) (nat_le n 62) e)
 
 each_handler : (last : ℕ) (list : List Handler) → AreHandlersPast last (map handler_entry list) → Each IsHandler list
 each_handler last [] h = tt
 each_handler last (g ∷ gs) h = (
-  record { signal = signal_good last g.signal h.0.0; address = let some : 0 < g.address = below 0 g.address h.0.1 in omega (arith, some) },
+  record { signal = signal_good last g.signal h.0.0; address = let n : 0 < g.address = ltb-true 0 g.address h.0.1 in omega (arith, n) },
   each_handler g.signal gs h.1,
 )
 
@@ -95,9 +85,9 @@ place_good least a e =
     let both : (nat_le least a && (a % 4096 == 0)) ≡ true =
     and_first (nat_le least a && (a % 4096 == 0)) (not (a == 0x7F0000000000)) e in
     record {
-      low = within least a (and_first (nat_le least a) (a % 4096 == 0) both);
-      aligned = equal (a % 4096) 0 (and_second (nat_le least a) (a % 4096 == 0) both);
-      private = apart a 0x7F0000000000 (and_second (nat_le least a && (a % 4096 == 0)) (not (a == 0x7F0000000000)) e);
+      low = leb-true least a (and_first (nat_le least a) (a % 4096 == 0) both);
+      aligned = eqb-true (a % 4096) 0 (and_second (nat_le least a) (a % 4096 == 0) both);
+      private = ne_from_not_eqb a 0x7F0000000000 (and_second (nat_le least a && (a % 4096 == 0)) (not (a == 0x7F0000000000)) e);
     }
 
 each_page : (least : ℕ) (list : List PageImage) → ArePagesPast least (map page_said list) → Each IsPageImage list
@@ -107,7 +97,7 @@ each_page least (p ∷ ps) h =
       record {
         aligned = place.aligned;
         private = place.private;
-        flags = below p.flags 8 h.0.1;
+        flags = ltb-true p.flags 8 h.0.1;
         full = h.0.2;
       },
       each_page (p.address + 1) ps h.1,
@@ -255,22 +245,22 @@ loose_good r t narrow sizes h =
     and_second (nat_lt t.count (slice_index (counts (report_said r)) t.thread)) (nat_lt t.count r.config.budget) good.progress.count_good in
     let most : nat_le t.events 262144 ≡ true =
     and_second (nat_le t.events (slice_index (journals (report_said r)) t.thread)) (nat_le t.events 262144) good.progress.events_good in
-    let modes : t.svcr < 4 = below t.svcr 4 good.system.svcr_good in
+    let modes : t.svcr < 4 = ltb-true t.svcr 4 good.system.svcr_good in
     let signals : ((t.mask % 2 == 0) && nat_lt t.mask (2 ^ 63)) ≡ true =
     and_first ((t.mask % 2 == 0) && nat_lt t.mask (2 ^ 63)) _ good.system.mask_good in
     let long : length_for (numbers_of r.config) t.svcr ≡ loose_length r.config t = length_is r.config t.svcr in
     record {
       numbers = record {
-        thread = below t.thread r.config.threads good.progress.thread_good;
-        count = below t.count r.config.budget budget;
-        events = within t.events 262144 most;
-        depth = subst (λ n. t.depth ≤ n) (depth_is r.config) (within t.depth (most_depth r.config.kernel) good.progress.depth_good);
-        turns = within t.turns (64 * r.config.budget) good.progress.turns_good;
-        flags = equal (t.nzcv % 2 ^ 28) 0 (and_first (t.nzcv % 2 ^ 28 == 0) (nat_lt t.nzcv (2 ^ 32)) good.system.nzcv_good);
-        word = below t.nzcv (2 ^ 32) (and_second (t.nzcv % 2 ^ 28 == 0) (nat_lt t.nzcv (2 ^ 32)) good.system.nzcv_good);
+        thread = ltb-true t.thread r.config.threads good.progress.thread_good;
+        count = ltb-true t.count r.config.budget budget;
+        events = leb-true t.events 262144 most;
+        depth = subst (λ n. t.depth ≤ n) (depth_is r.config) (leb-true t.depth (most_depth r.config.kernel) good.progress.depth_good);
+        turns = leb-true t.turns (64 * r.config.budget) good.progress.turns_good;
+        flags = eqb-true (t.nzcv % 2 ^ 28) 0 (and_first (t.nzcv % 2 ^ 28 == 0) (nat_lt t.nzcv (2 ^ 32)) good.system.nzcv_good);
+        word = ltb-true t.nzcv (2 ^ 32) (and_second (t.nzcv % 2 ^ 28 == 0) (nat_lt t.nzcv (2 ^ 32)) good.system.nzcv_good);
         modes = modes;
-        signals = equal (t.mask % 2) 0 (and_first (t.mask % 2 == 0) (nat_lt t.mask (2 ^ 63)) signals);
-        highest = below t.mask (2 ^ 63) (and_second (t.mask % 2 == 0) (nat_lt t.mask (2 ^ 63)) signals);
+        signals = eqb-true (t.mask % 2) 0 (and_first (t.mask % 2 == 0) (nat_lt t.mask (2 ^ 63)) signals);
+        highest = ltb-true t.mask (2 ^ 63) (and_second (t.mask % 2 == 0) (nat_lt t.mask (2 ^ 63)) signals);
         unmasked = unmasked_by r.config t.mask good.system.mask_good;
       };
       vectors = sizes.vectors ∙ ap (λ n. 32 * n) long;

@@ -3,6 +3,8 @@ use Rattle.std.proofs.Common.{◌≡◌, ℕ, zero, suc, ◌*◌, ◌%◌, ◌<�
 use Rattle.std.specs.Prelude.{nat_lt, nat_le, if◌then◌else◌}
 use Rattle.std.proofs.lemmas.Bool.Decides.{nat_tests}
 use Rattle.std.proofs.Math.Nat.{div-one}
+use Rattle.std.proofs.lemmas.Bool.{eqb-true, and_from}
+use Rattle.plain_lemmas.proofs.Tests.{or_resolve_left, and_second}
 use Rattle.sm_types.specs.Options.{numbers_of, version_of}
 use Rattle.sm_types.specs.declared.config.Config.{Config}
 use Rattle.sm_types.specs.declared.version.Version.TheVariants.{One, Two}
@@ -10,17 +12,6 @@ use Rattle.sve_vectors.specs.Lengths.{vector_bytes, current_bytes}
 use Rattle.machine_step.specs.System.{bit_at}
 use Rattle.kernel_contexts.specs.Kernel.{depth_limit}
 use Rattle.ckpt_fields.specs.Rows.{length_for, array_size, most_depth, is_mask}
-
-pub and_first : (a b : Bool) → (a && b) ≡ true → a ≡ true
-and_first true b e = refl
-and_first false b e = e
-
-pub and_second : (a b : Bool) → (a && b) ≡ true → b ≡ true
-and_second true b e = e
-and_second false b e = cc
-
-pub and_both : (a b : Bool) → a ≡ true → b ≡ true → (a && b) ≡ true
-and_both a b p q = ap (λ x. x && b) p ∙ q
 
 -- PSTATE.SM in SVCR
 pub lowest_bit : (svcr : ℕ) → bit_at svcr 0 ≡ (svcr % 2 == 1)
@@ -76,13 +67,6 @@ version_by : (b : Bool) → (if b then Two else One) ≡ One → b ≡ false
 version_by true e = cc
 version_by false e = refl
 
-or_second : (a b : Bool) → (a || b) ≡ true → a ≡ false → b ≡ true
-or_second true b h e = cc
-or_second false b h e = h
-
-same_number : (n : ℕ) → (n == 0) ≡ true → n ≡ 0
-same_number n e = grind (arith, nat_tests)
-
 pub unmasked_by : (config : Config) (mask : ℕ) → is_mask config.kernel mask ≡ true → version_of config ≡ One → mask ≡ 0
 unfolding version_of
 unmasked_by config mask h one =
@@ -91,7 +75,7 @@ unmasked_by config mask h one =
     let low : nat_lt 1 config.kernel ≡ false = sym test ∙ version_by (config.kernel == 2) one in
     let either : (nat_lt 1 config.kernel || (mask == 0)) ≡ true =
     and_second ((mask % 2 == 0) && nat_lt mask (2 ^ 63)) (nat_lt 1 config.kernel || (mask == 0)) h in
-    same_number mask (or_second (nat_lt 1 config.kernel) (mask == 0) either low)
+    eqb-true mask 0 (or_resolve_left (nat_lt 1 config.kernel) (mask == 0) either low)
 
 unmasked_or : (b : Bool) (m : ℕ) → ((if b then Two else One) ≡ One → m ≡ 0) → (b || (m == 0)) ≡ true
 unmasked_or true m h = refl
@@ -106,6 +90,6 @@ mask_by config mask even low one =
     first_version config.kernel config.kernel_in_range.0 config.kernel_in_range.1 in
     let first : (mask % 2 == 0) ≡ true = grind (arith, nat_tests) in
     let second : nat_lt mask (2 ^ 63) ≡ true = grind (arith, nat_tests) in
-    and_both ((mask % 2 == 0) && nat_lt mask (2 ^ 63)) (nat_lt 1 config.kernel || (mask == 0))
-    (and_both (mask % 2 == 0) (nat_lt mask (2 ^ 63)) first second)
+    and_from ((mask % 2 == 0) && nat_lt mask (2 ^ 63)) (nat_lt 1 config.kernel || (mask == 0))
+    (and_from (mask % 2 == 0) (nat_lt mask (2 ^ 63)) first second)
     (ap (λ b. b || (mask == 0)) (sym test) ∙ unmasked_or (config.kernel == 2) mask one)

@@ -7,8 +7,9 @@ use Rattle.std.specs.FinMap.{FinMap, entries, get, get-entries, find, same_entri
 use Rattle.std.specs.Cmp.{nat_cmp_total}
 use Rattle.std.specs.Ordering.{nat_cmp, eq_by_cmp}
 use Rattle.std.proofs.lemmas.Bool.{cases_Bool}
-use Rattle.std.proofs.lemmas.Bool.Decides.{nat_tests}
 use Rattle.std.proofs.lemmas.List.{length-map, length-append}
+use Rattle.plain_lemmas.proofs.Lists.{append_inj}
+use Rattle.plain_lemmas.proofs.Tests.{eq_by_cmp-true}
 use Rattle.bit_ops.specs.Sums.{bool_number}
 use Rattle.byteorder.specs.Endian.{little_number, little_bytes}
 use Rattle.sm_types.specs.declared.numbers.Numbers.{Numbers}
@@ -40,19 +41,6 @@ numbers_same (x ∷ xs) (y ∷ ys) h k e =
     let first : x ≡ y = number_same 8 x y (h 0) (k 0) (ap (λ l. slice_index_or l 0 []) e) in
     let rest : xs ≡ ys = numbers_same xs ys (λ i. h (suc i)) (λ i. k (suc i)) (ap (drop 1) e) in
     λ i. first i ∷ rest i
-
--- ---- two lists put together
-
-same_fronts : {A : Type 0} (v w more rest : List A) → length v ≡ length w → v ++ more ≡ w ++ rest → (v ≡ w) × (more ≡ rest)
-same_fronts [] [] more rest l e = (refl, e)
-same_fronts [] (y ∷ ys) more rest l e = absurd (omega (arith, l))
-same_fronts (x ∷ xs) [] more rest l e = absurd (omega (arith, l))
-same_fronts (x ∷ xs) (y ∷ ys) more rest l e =
-    let first : x ≡ y = cc in
-    let others : xs ++ more ≡ ys ++ rest = cc in
-    let long : length xs ≡ length ys = omega (arith, l) in
-    let same = same_fronts xs ys more rest long others in
-    ((λ i. first i ∷ same.0 i), same.1)
 
 -- ---- flags and modes
 
@@ -145,12 +133,12 @@ registers_same : (a b : ℕ) (r q : VectorRegisters) → a % 16 ≡ 0 → b % 16
 unfolding vector_values
 registers_same a b r q wa wb h k e =
     let vectors =
-    same_fronts r.vectors q.vectors (map predicate_bytes r.predicates ++ predicate_bytes r.ffr ∷ [])
+    append_inj r.vectors q.vectors (map predicate_bytes r.predicates ++ predicate_bytes r.ffr ∷ [])
     (map predicate_bytes q.predicates ++ predicate_bytes q.ffr ∷ []) (h.vector_count ∙ sym k.vector_count) e in
     let many : length (map predicate_bytes r.predicates) ≡ length (map predicate_bytes q.predicates) =
     length-map r.predicates predicate_bytes ∙ h.predicate_count ∙ sym (length-map q.predicates predicate_bytes ∙ k.predicate_count) in
     let both =
-    same_fronts (map predicate_bytes r.predicates) (map predicate_bytes q.predicates) (predicate_bytes r.ffr ∷ [])
+    append_inj (map predicate_bytes r.predicates) (map predicate_bytes q.predicates) (predicate_bytes r.ffr ∷ [])
     (predicate_bytes q.ffr ∷ [])
     many vectors.1 in
     let predicates : r.predicates ≡ q.predicates =
@@ -237,9 +225,6 @@ numbers_of_pages mem other (g ∷ es) (f ∷ fs) e =
     let rest : es ≡ fs = numbers_of_pages mem other es fs (ap (drop 1) e) in
     λ i. (number i, flags i) ∷ rest i
 
-same_key : (q k : ℕ) → eq_by_cmp nat_cmp q k ≡ true → q ≡ k
-same_key q k e = grind (arith, nat_tests)
-
 -- the bytes of a page that is there are the same
 bytes_of_page : (mem other : FinMap nat_cmp ℕ) (n flags : ℕ) (es : List (ℕ × ℕ)) → map (shown mem) es ≡ map (shown other) es
     → find nat_cmp n es ≡ Some flags → bytes_from mem (4096 * n) 4096 ≡ bytes_from other (4096 * n) 4096
@@ -247,7 +232,7 @@ bytes_of_page mem other n flags [] e found = cc
 bytes_of_page mem other n flags (g ∷ es) e found = elim (cases_Bool (eq_by_cmp nat_cmp n g.0)) [
   | inl here ↦
       let first : shown mem g ≡ shown other g = ap (λ l. slice_index_or l 0 (shown mem g)) e in
-      let same : n ≡ g.0 = same_key n g.0 here in
+      let same : n ≡ g.0 = eq_by_cmp-true n g.0 here in
       ap (λ k. bytes_from mem (4096 * k) 4096) same ∙ ap (λ (p : ℕ × ℕ × List ℕ). p.2) first
       ∙ ap (λ k. bytes_from other (4096 * k) 4096) (sym same)
   | inr past ↦
@@ -358,7 +343,7 @@ module _ (digest : List ℕ) (options : Numbers) (s r : State) (thread number ev
   registers : (register_values s.core.scalars ≡ register_values r.core.scalars) × (system_left s ≡ system_left r)
   unfolding state_values
   registers =
-      same_fronts (register_values s.core.scalars) (register_values r.core.scalars) (system_left s) (system_left r)
+      append_inj (register_values s.core.scalars) (register_values r.core.scalars) (system_left s) (system_left r)
       (length-registers s.core.scalars h.core.count ∙ sym (length-registers r.core.scalars k.core.count)) past_thread
 
   same_registers : s.core.scalars.pc ∷ s.core.scalars.sp ∷ s.core.scalars.x ≡ r.core.scalars.pc ∷ r.core.scalars.sp ∷ r.core.scalars.x
@@ -410,7 +395,7 @@ module _ (digest : List ℕ) (options : Numbers) (s r : State) (thread number ev
 
   vectors : (vector_values s.core.bank.registers ≡ vector_values r.core.bank.registers) × (array_left s ≡ array_left r)
   vectors =
-      same_fronts (vector_values s.core.bank.registers) (vector_values r.core.bank.registers) (array_left s) (array_left r)
+      append_inj (vector_values s.core.bank.registers) (vector_values r.core.bank.registers) (array_left s) (array_left r)
       (length-vectors (length_at (options.vl / 8) s.core) s.core.bank.registers h.core.registers
       ∙ sym (length-vectors (length_at (options.vl / 8) r.core) r.core.bank.registers k.core.registers)) past_system
 
@@ -424,7 +409,7 @@ module _ (digest : List ℕ) (options : Numbers) (s r : State) (thread number ev
 
   array : (array_values s.core.za_on s.core.bank.za ≡ array_values r.core.za_on r.core.bank.za) × (handlers_left s ≡ handlers_left r)
   array =
-      same_fronts (array_values s.core.za_on s.core.bank.za) (array_values r.core.za_on r.core.bank.za) (handlers_left s) (handlers_left r)
+      append_inj (array_values s.core.za_on s.core.bank.za) (array_values r.core.za_on r.core.bank.za) (handlers_left s) (handlers_left r)
       (length-array s.core.za_on s.core.bank.za r.core.bank.za r.core.za_on same_modes.1 long_arrays) vectors.1
 
   same_array : s.core.bank.za ≡ r.core.bank.za
@@ -441,7 +426,7 @@ module _ (digest : List ℕ) (options : Numbers) (s r : State) (thread number ev
       × (output_values s.output ++ page_values (pages_in s.core.memory) ≡ output_values r.output ++ page_values (pages_in r.core.memory))
   unfolding handler_values
   handlers =
-      same_fronts (flat_map handler_value (entries s.handlers)) (flat_map handler_value (entries r.handlers))
+      append_inj (flat_map handler_value (entries s.handlers)) (flat_map handler_value (entries r.handlers))
       (output_values s.output ++ page_values (pages_in s.core.memory)) (output_values r.output ++ page_values (pages_in r.core.memory))
       (length-handlers (entries s.handlers) ∙ ap (λ n. 2 * n) handler_count ∙ sym (length-handlers (entries r.handlers)))
       (ap (drop 1) array.1)

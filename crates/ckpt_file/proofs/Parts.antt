@@ -3,10 +3,9 @@ use Rattle.std.proofs.Common.{◌≡◌, ℕ, ◌+◌, ◌*◌, ◌/◌, ◌<◌
 use Rattle.std.proofs.Common.{◌∙◌, subst, arith, append_assoc}
 use Rattle.std.specs.Prelude.{nat_lt, nat_le, slice_index}
 use Rattle.std.specs.List.{flat_map}
-use Rattle.std.specs.Str.{bytes_eq}
 use Rattle.std.proofs.lemmas.Bool.Decides.{nat_tests}
 use Rattle.std.proofs.lemmas.List.{append-nil}
-use Rattle.std.proofs.lemmas.Slice.Eq.{bytes_eq-Decides}
+use Rattle.plain_lemmas.proofs.Lists.{bytes_eq-self}
 use Rattle.sm_types.specs.declared.numbers.Numbers.{Numbers}
 use Rattle.bit_ops.specs.Sums.{bool_number}
 use Rattle.byteorder.specs.Endian.{little_number, little_bytes}
@@ -43,18 +42,15 @@ told_right : (n : ℕ) → n < 2 ^ 32 → (little_number 4 (little_bytes 4 n) ==
 told_right n l =
     let self : (n == n) ≡ true = grind (arith, nat_tests) in ap (λ k. k == n) (word_back n l) ∙ self
 
-same_bytes : (bytes : List ℕ) → bytes_eq bytes bytes ≡ true
-same_bytes bytes = (bytes_eq-Decides bytes bytes).1 refl
-
 pub first_fill : (digest : List ℕ) (options : Numbers) (next : Table) (rest : List (List ℕ)) → AreNarrow options
     → IsFilled next rest → IsFilled (first_rows digest options next) (first_values digest options ++ rest)
 unfolding first_rows options_rows first_values option_values said number
 first_fill digest options next rest narrow h = (
   refl,
-  same_bytes tag,
+  bytes_eq-self tag,
   (
     refl,
-    same_bytes digest,
+    bytes_eq-self digest,
     (
       refl,
       told_right options.vl narrow.vl,

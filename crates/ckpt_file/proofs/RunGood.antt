@@ -4,7 +4,7 @@ use Rattle.std.proofs.Common.{refl, ap, sym, ◌∙◌, subst, arith}
 use Rattle.std.specs.Prelude.{slice_index, nat_lt, nat_le, is_some, ◌⊎◌}
 use Rattle.std.specs.FinMap.{FinMap, get, entries}
 use Rattle.std.specs.Ordering.{nat_cmp}
-use Rattle.std.proofs.lemmas.Bool.Decides.{nat_tests}
+use Rattle.std.proofs.lemmas.Bool.{and_from, le-leb, lt-ltb}
 use Rattle.sm_types.specs.Length.{bits_of}
 use Rattle.sm_types.specs.Options.{numbers_of, version_of}
 use Rattle.sm_types.specs.declared.config.Config.{Config}
@@ -24,14 +24,8 @@ use Rattle.ckpt_fields.specs.Rows.{counts, journals, most_depth, is_count}
 use Rattle.ckpt_file.specs.Beyond.{HasLoadablePages}
 use Rattle.ckpt_file.proofs.Parts.{AreNarrow, IsProgress, IsNarrowEntry, AreHandlersPast}
 use Rattle.ckpt_file.proofs.Filling.{Each}
-use Rattle.ckpt_file.proofs.Modes.{and_both, depth_is}
+use Rattle.ckpt_file.proofs.Modes.{depth_is}
 use Rattle.ckpt_file.proofs.Kept.{HasPlaces, table_past, table_few, narrow_set}
-
-below_test : (a b : ℕ) → a < b → nat_lt a b ≡ true
-below_test a b l = grind (arith, nat_tests)
-
-at_most_test : (a b : ℕ) → a ≤ b → nat_le a b ≡ true
-at_most_test a b l = grind (arith, nat_tests)
 
 -- ---- the options
 
@@ -71,19 +65,19 @@ pub progress_good : (report : Report) (config : Config) (thread count events dep
     → events ≤ slice_index (journals report) thread → IsProgress report thread count events depth turns
 progress_good report config thread count events depth turns same h more made = record {
   thread_good =
-      ap (λ (o : Numbers). nat_lt thread o.threads) same ∙ below_test thread config.threads h.number_within;
+      ap (λ (o : Numbers). nat_lt thread o.threads) same ∙ lt-ltb thread config.threads h.number_within;
   count_good =
       ap (λ (o : Numbers). is_count (slice_index (counts report) thread) o.budget count) same
-      ∙ and_both (nat_lt count (slice_index (counts report) thread)) (nat_lt count config.budget)
-      (below_test count (slice_index (counts report) thread) more) (below_test count config.budget h.count_within);
+      ∙ and_from (nat_lt count (slice_index (counts report) thread)) (nat_lt count config.budget)
+      (lt-ltb count (slice_index (counts report) thread) more) (lt-ltb count config.budget h.count_within);
   events_good =
-      and_both (nat_le events (slice_index (journals report) thread)) (nat_le events 262144)
-      (at_most_test events (slice_index (journals report) thread) made) (at_most_test events 262144 h.events_within);
+      and_from (nat_le events (slice_index (journals report) thread)) (nat_le events 262144)
+      (le-leb events (slice_index (journals report) thread) made) (le-leb events 262144 h.events_within);
   depth_good =
       ap (λ (o : Numbers). nat_le depth (most_depth o.kernel)) same
-      ∙ at_most_test depth (most_depth (numbers_of config).kernel) (subst (λ n. depth ≤ n) (sym (depth_is config)) h.depth_within);
+      ∙ le-leb depth (most_depth (numbers_of config).kernel) (subst (λ n. depth ≤ n) (sym (depth_is config)) h.depth_within);
   turns_good =
-      ap (λ (o : Numbers). nat_le turns (64 * o.budget)) same ∙ at_most_test turns (64 * config.budget) h.turns_within;
+      ap (λ (o : Numbers). nat_le turns (64 * o.budget)) same ∙ le-leb turns (64 * config.budget) h.turns_within;
 }
 
 -- ---- its handlers

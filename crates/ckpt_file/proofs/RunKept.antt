@@ -5,11 +5,11 @@ use Rattle.std.specs.Prelude.{◌&&◌, ◌||◌, nat_lt, nat_le, slice_index, l
 use Rattle.std.specs.Int.{w64, bit_not}
 use Rattle.std.specs.FinMap.{get, get-empty}
 use Rattle.std.specs.Ordering.{nat_cmp}
-use Rattle.std.proofs.lemmas.Bool.{cond_both}
-use Rattle.std.proofs.lemmas.Bool.Decides.{nat_tests}
+use Rattle.std.proofs.lemmas.Bool.{cond_both, eqb-true, leb-true, ltb-true}
 use Rattle.std.proofs.lemmas.Nat.{and_mod, or_mod, or_lt, and_le_l, and_le_r}
 use Rattle.std.proofs.Math.Pow.{pow-lt}
 use Rattle.std.proofs.Math.Nat.{pow-succ'}
+use Rattle.plain_lemmas.proofs.Tests.{and_second, and_first}
 use Rattle.sm_types.specs.SharedOps.{is_same_op}
 use Rattle.sm_types.specs.Options.{version_of}
 use Rattle.sm_types.specs.declared.config.Config.{Config}
@@ -63,7 +63,6 @@ use Rattle.kernel_contexts.specs.Turn.{turn_of, after_effect, outside_streaming,
 use Rattle.kernel_contexts.specs.Turn.{is_delivery_due, delivered_to, handled, released, lowest_signal}
 use Rattle.kernel_contexts.specs.Run.{Reached, At, Ended, Strays, turned, after_turn, reach_from, reach}
 use Rattle.kernel_contexts.proofs.Signals.{kept_of_signals, of_signal}
-use Rattle.ckpt_file.proofs.Modes.{and_first, and_second}
 
 -- ---- masks
 
@@ -71,15 +70,6 @@ use Rattle.ckpt_file.proofs.Modes.{and_first, and_second}
 pub record IsMask (mask : ℕ) : Type 0 where
   pub even : mask % 2 ≡ 0
   pub low : mask < 2 ^ 63
-
-below : (a b : ℕ) → nat_lt a b ≡ true → a < b
-below a b e = grind (arith, nat_tests)
-
-within : (a b : ℕ) → nat_le a b ≡ true → a ≤ b
-within a b e = grind (arith, nat_tests)
-
-equal : (a b : ℕ) → (a == b) ≡ true → a ≡ b
-equal a b e = grind (arith, nat_tests)
 
 either_mask : (a b : ℕ) → IsMask a → IsMask b → IsMask (bit_or a b)
 either_mask a b h k = record {
@@ -113,7 +103,7 @@ masked_mask how mask n h =
 power_mask : (signal : ℕ) → is_signal signal ≡ true → IsMask (2 ^ signal)
 power_mask zero e = cc
 power_mask (suc n) e =
-    let high : suc n ≤ 62 = within (suc n) 62 (and_second (nat_le 1 (suc n)) (nat_le (suc n) 62) e) in
+    let high : suc n ≤ 62 = leb-true (suc n) 62 (and_second (nat_le 1 (suc n)) (nat_le (suc n) 62) e) in
     record {
       even = let twice : 2 ^ suc n ≡ 2 * 2 ^ n = pow-succ' 2 n ∙ omega arith in omega (arith, twice);
       low = pow-lt {i = suc n} {j = 63} (omega (arith, high));
@@ -179,9 +169,9 @@ saved_mask Two depth vl svl sp first (Some frame) e =
     (and_first ((number_at frame 320 8 % 2 == 0) && nat_lt (number_at frame 320 8) (2 ^ 63) && nat_lt (number_at frame 328 4) depth)
     (number_at frame 332 4 == 0) nested) in
     record {
-      even = equal (number_at frame 320 8 % 2) 0
+      even = eqb-true (number_at frame 320 8 % 2) 0
           (and_first (number_at frame 320 8 % 2 == 0) (nat_lt (number_at frame 320 8) (2 ^ 63)) both);
-      low = below (number_at frame 320 8) (2 ^ 63)
+      low = ltb-true (number_at frame 320 8) (2 ^ 63)
           (and_second (number_at frame 320 8 % 2 == 0) (nat_lt (number_at frame 320 8) (2 ^ 63)) both);
     }
   where

@@ -1,7 +1,8 @@
 -- Where the file of a state that is read stands in a report.
-use Rattle.std.proofs.Common.{◌≡◌, ℕ, ◌<◌, ◌≤◌, ◌&&◌, Bool, true, false, List, ◌++◌, refl, sym, ◌∙◌, ap, arith}
+use Rattle.std.proofs.Common.{◌≡◌, ℕ, ◌<◌, ◌≤◌, true, List, ◌++◌, sym, ◌∙◌, ap, arith}
 use Rattle.std.specs.Prelude.{nat_le, nat_lt, slice_index}
 use Rattle.std.proofs.lemmas.Bool.Decides.{nat_tests}
+use Rattle.plain_lemmas.proofs.Tests.{and_first}
 use Rattle.field_table.specs.Rows.{number, said}
 use Rattle.field_table.specs.Table.{IsFilled}
 use Rattle.kernel_contexts.specs.State.{State}
@@ -12,10 +13,6 @@ use Rattle.ckpt_fields.specs.Values.{first_values, option_values, thread_values}
 use Rattle.ckpt_file.specs.Beyond.{StandsInBlock}
 use Rattle.ckpt_file.specs.Checkpoint.{checkpoint_values, state_values, ReadsCheckpoint}
 use Rattle.ckpt_file.proofs.Filling.{back}
-
-both : (a b : Bool) → (a && b) ≡ true → a ≡ true
-both true b e = refl
-both false b e = e
 
 module _ (bytes : List ℕ) (it : Report) (s : State) (thread used : ℕ) (h : ReadsCheckpoint bytes it s thread used) where
   from_thread_on : IsFilled (thread_rows it (from_registers it)) (thread_values thread s.count used s.depth s.turns ++ state_values s)
@@ -44,13 +41,13 @@ module _ (bytes : List ℕ) (it : Report) (s : State) (thread used : ℕ) (h : R
   count_below : s.count < slice_index (counts it) thread
   count_below =
       let is : nat_lt s.count (slice_index (counts it) thread) ≡ true =
-      both (nat_lt s.count (slice_index (counts it) thread)) (nat_lt s.count it.options.budget) count_so in
+      and_first (nat_lt s.count (slice_index (counts it) thread)) (nat_lt s.count it.options.budget) count_so in
       grind (arith, nat_tests)
 
   events_within : used ≤ slice_index (journals it) thread
   events_within =
       let is : nat_le used (slice_index (journals it) thread) ≡ true =
-      both (nat_le used (slice_index (journals it) thread)) (nat_le used 262144) events_so in
+      and_first (nat_le used (slice_index (journals it) thread)) (nat_le used 262144) events_so in
       grind (arith, nat_tests)
 
   pub stands_in_block : StandsInBlock it s thread used

@@ -1,9 +1,11 @@
 -- What is wrong at the places of an option and of its value, and with the words as a whole.
-use Rattle.std.proofs.Common.{◌≡◌, ℕ, zero, suc, ◌+◌, ◌-◌, ◌%◌, ◌<◌, ◌≤◌, true, false, ◌==◌, List, [], ◌∷◌, length, Option, Some, None}
+use Rattle.std.proofs.Common.{◌≡◌, ℕ, ◌+◌, ◌-◌, ◌%◌, ◌<◌, ◌≤◌, true, false, ◌==◌, List, [], length, Option, Some, None}
 use Rattle.std.proofs.Common.{refl, ◌∙◌, ap, arith}
-use Rattle.std.specs.Prelude.{slice_get, is_some, option_and_then, option_map, nat_le}
+use Rattle.std.specs.Prelude.{slice_get, is_some, option_and_then, option_map}
 use Rattle.std.specs.List.{find, range_with_len}
 use Rattle.std.proofs.lemmas.Bool.Decides.{nat_tests}
+use Rattle.std.proofs.lemmas.Bool.{le-leb}
+use Rattle.std.proofs.lemmas.Option.{slice_get_past}
 use Rattle.cmd_words.specs.Forms.{Form, options_from}
 use Rattle.cmd_words.specs.Options.{setting_in}
 use Rattle.cmd_words.specs.Words.{Fault, form_asked, is_option_place, operand_fault, option_fault, value_fault, rest_fault, fault_at}
@@ -48,16 +50,11 @@ rest_at : (words : List (List ℕ)) (form : Form) (p : ℕ) → form_asked words
 unfolding fault_at
 rest_at words form p asked l = rw (not_first p l, asked) refl
 
-pub get_past : {A : Type 0} (xs : List A) (i : ℕ) → length xs ≤ i → slice_get xs i ≡ None
-get_past [] i l = refl
-get_past (x ∷ xs) zero l = absurd (omega arith)
-get_past (x ∷ xs) (suc i) l = get_past xs i (omega arith)
-
 -- past the operands
 past_at : (words : List (List ℕ)) (form : Form) (p : ℕ) → form_asked words ≡ Some form → options_from form ≤ p
     → fault_at words p ≡ rest_fault form words p None
 past_at words form p asked l =
-    rest_at words form p asked (omega arith) ∙ ap (rest_fault form words p) (get_past form.operands (p - 1) (omega arith))
+    rest_at words form p asked (omega arith) ∙ ap (rest_fault form words p) (slice_get_past form.operands (p - 1) (omega arith))
 
 -- at an operand
 pub fault_at-operand : (words : List (List ℕ)) (form : Form) (k : ℕ) (operand : Operand) → form_asked words ≡ Some form
@@ -66,9 +63,6 @@ fault_at-operand words form k operand asked at =
     let before : k + 1 - 1 ≡ k = omega arith in
     rest_at words form (k + 1) asked (omega arith) ∙ ap (λ i. rest_fault form words (k + 1) (slice_get form.operands i)) before
     ∙ ap (rest_fault form words (k + 1)) at
-
-at_least : (m p : ℕ) → m ≤ p → nat_le m p ≡ true
-at_least m p l = grind (arith, nat_tests)
 
 even_here : (n : ℕ) → n % 2 ≡ 0 → (n % 2 == 0) ≡ true
 even_here n even = grind (arith, nat_tests)
@@ -80,11 +74,11 @@ odd_next : (m p : ℕ) → m ≤ p → (p - m) % 2 ≡ 0 → (p + 1 - m) % 2 ≡
 odd_next m p l even = omega arith
 
 pub at_option : (form : Form) (p : ℕ) → options_from form ≤ p → (p - options_from form) % 2 ≡ 0 → is_option_place form p ≡ true
-at_option form p l even = rw (at_least (options_from form) p l, even_here (p - options_from form) even) refl
+at_option form p l even = rw (le-leb (options_from form) p l, even_here (p - options_from form) even) refl
 
 pub at_value : (form : Form) (p : ℕ) → options_from form ≤ p → (p - options_from form) % 2 ≡ 0 → is_option_place form (p + 1) ≡ false
 at_value form p l even =
-    rw (at_least (options_from form) (p + 1) (omega arith), odd_here (p + 1 - options_from form) (odd_next (options_from form) p l even))
+    rw (le-leb (options_from form) (p + 1) (omega arith), odd_here (p + 1 - options_from form) (odd_next (options_from form) p l even))
     refl
 
 pub fault_at-option : (words : List (List ℕ)) (form : Form) (p : ℕ) → form_asked words ≡ Some form → options_from form ≤ p

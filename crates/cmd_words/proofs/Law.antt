@@ -1,8 +1,11 @@
 -- Words ask for a command exactly where they have no fault, and for no number of an option that it does not take.
-use Rattle.std.proofs.Common.{◌≡◌, ℕ, suc, ◌+◌, ◌-◌, ◌<◌, ◌≤◌, ◌⊎◌, inl, inr, Bool, true, false, cond, List, [], ◌∷◌, length, drop}
+use Rattle.std.proofs.Common.{◌≡◌, ℕ, suc, ◌+◌, ◌-◌, ◌<◌, ◌≤◌, inl, inr, Bool, true, cond, List, [], ◌∷◌, length, drop}
 use Rattle.std.proofs.Common.{get_or, Option, Some, None, refl, sym, ◌∙◌, ap, subst, arith}
+use Rattle.std.proofs.lemmas.Option.{slice_get_past, none-some, same_Some, slice_get-get_or}
+use Rattle.std.proofs.lemmas.Bool.{cases_lt}
 use Rattle.std.specs.Prelude.{◌↔◌, slice_get, is_some, is_none, IsSome, option_and_then, option_map}
 use Rattle.std.specs.List.{find, range_with_len}
+use Rattle.plain_lemmas.proofs.Options.{IsSome_from, is_some-false}
 use Rattle.cmd_words.specs.Forms.{Form, form_of}
 use Rattle.cmd_words.specs.Options.{default_of, number_in, setting_in, word_of}
 use Rattle.cmd_words.specs.Words.{Fault, Request, options_given, verb_of, form_asked, command_fault, operand_fault, arguments_of, request_for}
@@ -17,12 +20,8 @@ use Rattle.cmd_words.specs.declared.verb.Verb.{Verb}
 use Rattle.cmd_words.specs.declared.verb.Verb.TheVariants.{Run, Sim, Dis, Asm, Replay, Debug, Ckpt, Resume, AbiCheck, Vectors}
 use Rattle.cmd_words.specs.declared.verb.Verb.TheVariants.{Gen, Bench, Help, Version}
 use Rattle.sm_types.proofs.Places.{none-find, find-passes}
-use Rattle.cmd_words.proofs.Faults.{fault_at-operand, get_past}
-use Rattle.cmd_words.proofs.Reading.{asked_of, operand_at, sound_first}
-
-none_if_not : {A : Type 0} (o : Option A) → is_some o ≡ false → o ≡ None
-none_if_not None e = refl
-none_if_not (Some x) e = cc
+use Rattle.cmd_words.proofs.Faults.{fault_at-operand}
+use Rattle.cmd_words.proofs.Reading.{asked_of, sound_first}
 
 map_some : {A B : Type 0} (f : A → B) (o : Option A) → is_some o ≡ true → option_map f o ≡ None → ⊥
 map_some f None some none = cc
@@ -35,7 +34,7 @@ no_place words e q l =
     let test : ℕ → Bool = λ place. is_some (fault_at words place) in
     elim (find test (range_with_len 0 (length words + 1))) as (λ o. find test (range_with_len 0 (length words + 1)) ≡ o
     → option_and_then (place_fault words) o ≡ None → fault_at words q ≡ None) [
-      | None ↦ λ is n. none_if_not (fault_at words q) (none-find test (length words + 1) q is l)
+      | None ↦ λ is n. is_some-false (fault_at words q) (none-find test (length words + 1) q is l)
       | Some p ↦ λ is n. absurd (map_some (λ (kind : UsageKind). let f : Fault = record { place = p; kind = kind } in f) (fault_at words p)
           (find-passes test (range_with_len 0 (length words + 1)) p is) n)
     ] refl e
@@ -70,9 +69,6 @@ reading words = (λ e. faultless (usage_fault words) _ e, asks words)
 
 -- ---- the operands
 
-low_or : (a b : ℕ) → (a < b) ⊎ (b ≤ a)
-low_or a b = grind arith
-
 missing : (operand : Operand) (word : Option (List ℕ)) → word ≡ None → operand_fault operand word ≡ None → ⊥
 missing operand word e h = let none : operand_fault operand None ≡ None = rw e at h in cc
 
@@ -81,14 +77,14 @@ enough : (words : List (List ℕ)) (form : Form) → usage_fault words ≡ None 
     → 1 + length form.operands ≤ length words
 enough words form none asked =
     let first : 1 ≤ length words = (sound_first words form asked).inside in
-    elim (low_or (length words) (1 + length form.operands)) [
+    elim (cases_lt (length words) (1 + length form.operands)) [
       | inr fits ↦ fits
       | inl short ↦
           let k = length words - 1 in
           let inside : k < length form.operands = omega arith in
           let last : k + 1 ≡ length words = omega arith in
-          absurd (missing (get_or form.operands k Name) (slice_get words (k + 1)) (get_past words (k + 1) (omega arith))
-          (sym (fault_at-operand words form k (get_or form.operands k Name) asked (operand_at form.operands k Name inside))
+          absurd (missing (get_or form.operands k Name) (slice_get words (k + 1)) (slice_get_past words (k + 1) (omega arith))
+          (sym (fault_at-operand words form k (get_or form.operands k Name) asked (slice_get-get_or form.operands k Name inside))
           ∙ no_place words none (k + 1) (omega arith)))
     ]
 
@@ -102,15 +98,12 @@ past_first : (words : List (List ℕ)) (n : ℕ) → 1 + n ≤ length words → 
 past_first [] n l = absurd (omega arith)
 past_first (word ∷ words) n l = omega arith
 
-same_request : (a b : Request) → ◌≡◌ {A = Option Request} (Some a) (Some b) → a ≡ b
-same_request a b e = cc
-
 full_of : (words : List (List ℕ)) (verb : Option Verb) (request : Request) → usage_fault words ≡ None
     → option_and_then verb_of (slice_get words 0) ≡ verb → option_map (request_for words) verb ≡ Some request
     → length request.operands ≡ length (form_of request.verb).operands
 full_of words None request none is e = cc
 full_of words (Some verb) request none is e =
-    subst (λ (r : Request). length r.operands ≡ length (form_of r.verb).operands) (same_request (request_for words verb) request e)
+    subst (λ (r : Request). length r.operands ≡ length (form_of r.verb).operands) (same_Some (request_for words verb) request e)
     (arguments-length (form_of verb).operands (drop 1 words)
     (past_first words (length (form_of verb).operands) (enough words (form_of verb) none (asked_of words verb is))))
 
@@ -119,37 +112,31 @@ unasked : (fault : Option Fault) (command : Option Request) (request : Request)
 unasked None command request e = e
 unasked (Some fault) command request e = cc
 
-some_asked : (o : Option Request) (request : Request) → o ≡ Some request → IsSome o
-some_asked o request e = rw e refl
-
 pub full : (words : List (List ℕ)) (request : Request) → command_of words ≡ Some request
     → length request.operands ≡ length (form_of request.verb).operands
 unfolding command_of
 full words request e =
     full_of words (option_and_then verb_of (slice_get words 0)) request
-    (faultless (usage_fault words) _ (some_asked _ request e)) refl
+    (faultless (usage_fault words) _ (IsSome_from _ request e)) refl
     (unasked (usage_fault words) _ request e)
 
 -- ---- the options that a command does not take
 
-found : (setting : Setting) → ◌≡◌ {A = Option Setting} (Some setting) None → ⊥
-found setting e = cc
-
 fixed_of : (verb : Verb) (setting : Setting) (words : List (List ℕ)) → setting_in (form_of verb).options (word_of setting) ≡ None
     → number_in (options_given (form_of verb) words) setting ≡ default_of setting
 unfolding options_given setting_in
-fixed_of Run Vl words e = absurd (found Vl e)
-fixed_of Run Svl words e = absurd (found Svl e)
-fixed_of Run Slice words e = absurd (found Slice e)
-fixed_of Run Budget words e = absurd (found Budget e)
-fixed_of Run Threads words e = absurd (found Threads e)
-fixed_of Run Cores words e = absurd (found Cores e)
-fixed_of Sim Vl words e = absurd (found Vl e)
-fixed_of Sim Svl words e = absurd (found Svl e)
-fixed_of Sim Slice words e = absurd (found Slice e)
-fixed_of Sim Budget words e = absurd (found Budget e)
-fixed_of Sim Threads words e = absurd (found Threads e)
-fixed_of Sim Cores words e = absurd (found Cores e)
+fixed_of Run Vl words e = absurd (none-some Vl (sym e))
+fixed_of Run Svl words e = absurd (none-some Svl (sym e))
+fixed_of Run Slice words e = absurd (none-some Slice (sym e))
+fixed_of Run Budget words e = absurd (none-some Budget (sym e))
+fixed_of Run Threads words e = absurd (none-some Threads (sym e))
+fixed_of Run Cores words e = absurd (none-some Cores (sym e))
+fixed_of Sim Vl words e = absurd (none-some Vl (sym e))
+fixed_of Sim Svl words e = absurd (none-some Svl (sym e))
+fixed_of Sim Slice words e = absurd (none-some Slice (sym e))
+fixed_of Sim Budget words e = absurd (none-some Budget (sym e))
+fixed_of Sim Threads words e = absurd (none-some Threads (sym e))
+fixed_of Sim Cores words e = absurd (none-some Cores (sym e))
 fixed_of Dis setting words e = refl
 fixed_of Asm setting words e = refl
 fixed_of Replay setting words e = refl
@@ -157,19 +144,19 @@ fixed_of Debug setting words e = refl
 fixed_of Ckpt setting words e = refl
 fixed_of Resume setting words e = refl
 fixed_of AbiCheck setting words e = refl
-fixed_of Vectors Vl words e = absurd (found Vl e)
-fixed_of Vectors Svl words e = absurd (found Svl e)
+fixed_of Vectors Vl words e = absurd (none-some Vl (sym e))
+fixed_of Vectors Svl words e = absurd (none-some Svl (sym e))
 fixed_of Vectors Slice words e = refl
 fixed_of Vectors Budget words e = refl
 fixed_of Vectors Threads words e = refl
-fixed_of Vectors Cores words e = absurd (found Cores e)
+fixed_of Vectors Cores words e = absurd (none-some Cores (sym e))
 fixed_of Gen setting words e = refl
 fixed_of Bench Vl words e = refl
 fixed_of Bench Svl words e = refl
 fixed_of Bench Slice words e = refl
 fixed_of Bench Budget words e = refl
 fixed_of Bench Threads words e = refl
-fixed_of Bench Cores words e = absurd (found Cores e)
+fixed_of Bench Cores words e = absurd (none-some Cores (sym e))
 fixed_of Help setting words e = refl
 fixed_of Version setting words e = refl
 
@@ -179,7 +166,7 @@ fixed_for : (words : List (List ℕ)) (verb : Option Verb) (request : Request) (
 fixed_for words None request setting e none = cc
 fixed_for words (Some verb) request setting e none =
     subst (λ (r : Request). setting_in (form_of r.verb).options (word_of setting) ≡ None → number_in r.options setting ≡ default_of setting)
-    (same_request (request_for words verb) request e) (fixed_of verb setting words) none
+    (same_Some (request_for words verb) request e) (fixed_of verb setting words) none
 
 pub fixed : (words : List (List ℕ)) (request : Request) (setting : Setting) → command_of words ≡ Some request
     → setting_in (form_of request.verb).options (word_of setting) ≡ None → number_in request.options setting ≡ default_of setting

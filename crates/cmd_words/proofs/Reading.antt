@@ -2,12 +2,14 @@
 use Rattle.std.proofs.Common.{◌≡◌, ◌≢◌, ℕ, zero, suc, ◌+◌, ◌-◌, ◌%◌, ◌<◌, ◌≤◌, ◌⊎◌, inl, inr, Bool, true, false, cond, List, [], ◌∷◌}
 use Rattle.std.proofs.Common.{length, Option, Some, None, refl, sym, ◌∙◌, ap, subst, arith, drop, get_or, add-one, drop-cons}
 use Rattle.std.proofs.Math.ListN.{drop_of_length-le}
-use Rattle.std.specs.Prelude.{slice_get, is_some, IsSome, option_and_then, option_map, unwrap_or, nat_le}
-use Rattle.std.proofs.lemmas.Bool.Decides.{nat_tests}
+use Rattle.std.specs.Prelude.{slice_get, is_some, IsSome, option_and_then, option_map, unwrap_or}
 use Rattle.std.specs.Option.{ForSome, MatchOption}
 use Rattle.std.specs.List.{find, range_with_len}
 use Rattle.std.specs.Str.{bytes_eq}
 use Rattle.std.proofs.lemmas.Slice.Eq.{bytes_eq-Decides}
+use Rattle.std.proofs.lemmas.Option.{slice_get_past, same_Some, slice_get_within, none-some}
+use Rattle.std.proofs.lemmas.Bool.{lt-leb, both_ways}
+use Rattle.plain_lemmas.proofs.Options.{is_some-false}
 use Rattle.cmd_words.specs.Forms.{Form, form_of, options_from, run_options}
 use Rattle.line_reader.specs.Numbers.{is_decimal, decimal_value}
 use Rattle.sm_types.specs.Options.{are_taken}
@@ -29,21 +31,9 @@ use Rattle.cmd_words.specs.declared.setting.Setting.TheVariants.{Vl, Svl, Slice,
 use Rattle.cmd_words.specs.declared.verb.Verb.{Verb}
 use Rattle.cmd_words.specs.declared.verb.Verb.TheVariants.{Bench, Vectors}
 use Rattle.sm_types.proofs.Places.{or_next, find-more, find-none}
-use Rattle.cmd_words.proofs.Faults.{get_past, at_option, at_value, fault_at-operand, fault_at-option, fault_at-value, usage_at, usage_none}
+use Rattle.cmd_words.proofs.Faults.{at_option, at_value, fault_at-operand, fault_at-option, fault_at-value, usage_at, usage_none}
 
 -- ---- options and their words
-
-same_setting : (s t : Setting) → ◌≡◌ {A = Option Setting} (Some s) (Some t) → s ≡ t
-same_setting s t e = cc
-
-same_number : (m n : ℕ) → ◌≡◌ {A = Option ℕ} (Some m) (Some n) → m ≡ n
-same_number m n e = cc
-
-none_some : (n : ℕ) → ◌≡◌ {A = Option ℕ} None (Some n) → ⊥
-none_some n e = cc
-
-no_setting : (s : Setting) → ◌≡◌ {A = Option Setting} None (Some s) → ⊥
-no_setting s e = cc
 
 -- a word that is an option is the option's word
 setting_word : (settings : List Setting) (word : List ℕ) (s : Setting) → setting_in settings word ≡ Some s → word ≡ word_of s
@@ -52,7 +42,7 @@ setting_word [] word s e = cc
 setting_word (first ∷ settings) word s e =
     elim (bytes_eq word (word_of first)) as (λ b. bytes_eq word (word_of first) ≡ b
     → cond b (Some first) (setting_in settings word) ≡ Some s → word ≡ word_of s) [
-      | true ↦ λ is h. (bytes_eq-Decides word (word_of first)).0 is ∙ ap word_of (same_setting first s h)
+      | true ↦ λ is h. (bytes_eq-Decides word (word_of first)).0 is ∙ ap word_of (same_Some first s h)
       | false ↦ λ is h. setting_word settings word s h
     ] refl e
 
@@ -83,15 +73,12 @@ of_word Cores = refl
 
 -- options of one word are one
 one_word : (s t : Setting) → word_of t ≡ word_of s → t ≡ s
-one_word s t e = same_setting t s (sym (of_word t) ∙ ap (setting_in all_settings) e ∙ of_word s)
-
-not_both : (b : Bool) → b ≡ false → b ≡ true → ⊥
-not_both b f t = cc
+one_word s t e = same_Some t s (sym (of_word t) ∙ ap (setting_in all_settings) e ∙ of_word s)
 
 same_or : (s t : Setting) → (t ≡ s) ⊎ (t ≢ s)
 same_or s t = elim (bytes_eq (word_of t) (word_of s)) as (λ b. bytes_eq (word_of t) (word_of s) ≡ b → (t ≡ s) ⊎ (t ≢ s)) [
   | true ↦ λ is. inl (one_word s t ((bytes_eq-Decides (word_of t) (word_of s)).0 is))
-  | false ↦ λ is. inr (λ e. not_both (bytes_eq (word_of t) (word_of s)) is ((bytes_eq-Decides (word_of t) (word_of s)).1 (ap word_of e)))
+  | false ↦ λ is. inr (λ e. both_ways (bytes_eq (word_of t) (word_of s)) is ((bytes_eq-Decides (word_of t) (word_of s)).1 (ap word_of e)))
 ] refl
 
 words_apart : (s t : Setting) → t ≢ s → bytes_eq (word_of t) (word_of s) ≡ false
@@ -127,24 +114,12 @@ numbers_taken given h =
 
 -- ---- the places of options
 
-get_inside : (words : List (List ℕ)) (i : ℕ) (word : List ℕ) → slice_get words i ≡ Some word → i < length words
-get_inside [] i word e = cc
-get_inside (w ∷ ws) zero word e = omega arith
-get_inside (w ∷ ws) (suc i) word e = let l : i < length ws = get_inside ws i word e in omega arith
-
 or_next-false : (o : Option ℕ) (passes : Bool) (place : ℕ) → passes ≡ false → or_next o passes place ≡ o
 or_next-false None passes place e = rw e refl
 or_next-false (Some p) passes place e = refl
 
-none_if : {A : Type 0} (o : Option A) → is_some o ≡ false → o ≡ None
-none_if None e = refl
-none_if (Some x) e = cc
-
 same_or_low : (q p : ℕ) → q < p + 1 → (q ≡ p) ⊎ (q < p)
 same_or_low q p l = grind arith
-
-too_low : (m q : ℕ) → q < m → nat_le m q ≡ false
-too_low m q l = grind (arith, nat_tests)
 
 module _ (words : List (List ℕ)) (form : Form) where
   stands-here : (option word : List ℕ) (p : ℕ) → options_from form ≤ p → (p - options_from form) % 2 ≡ 0 → slice_get words p ≡ Some word
@@ -157,7 +132,7 @@ module _ (words : List (List ℕ)) (form : Form) where
 
   -- before the first option none stands
   stands-before : (option : List ℕ) (q : ℕ) → q < options_from form → stands_at form words option q ≡ false
-  stands-before option q l = rw (too_low (options_from form) q l) refl
+  stands-before option q l = rw (lt-leb (options_from form) q l) refl
 
   no_place : (option : List ℕ) → option_place form words option (options_from form) ≡ None
   unfolding option_place
@@ -239,7 +214,7 @@ module _ (words : List (List ℕ)) (form : Form) (p : ℕ) (given : Given) (word
       → given_of given s ≡ None → value ≡ slice_get words (p + 1) → value_fault (Some s) value ≡ Some kind
       → usage_fault words ≡ Some (record { place = p + 1; kind = kind })
   value_usage s kind value is none after why =
-      usage_at words (p + 1) kind (let l : p < length words = get_inside words p word at in omega arith)
+      usage_at words (p + 1) kind (let l : p < length words = slice_get_within words p word at in omega arith)
       (value_here s is ∙ ap (value_fault (Some s)) (sym after) ∙ why) (sound_to_value s is none)
 
   -- ---- one more option is read
@@ -259,7 +234,7 @@ module _ (words : List (List ℕ)) (form : Form) (p : ℕ) (given : Given) (word
     ]
 
     none_before : option_place form words (word_of s) p ≡ None
-    none_before = none_if (option_place form words (word_of s) p) (sym (h.placed s) ∙ ap is_some none)
+    none_before = is_some-false (option_place form words (word_of s) p) (sym (h.placed s) ∙ ap is_some none)
 
     now_here : option_place form words (word_of s) (p + 2) ≡ Some p
     now_here = place_here words form word s p h.past h.even at (setting_word form.options word s is) none_before
@@ -292,7 +267,7 @@ module _ (words : List (List ℕ)) (form : Form) (p : ℕ) (given : Given) (word
 
     untaken_more : (t : Setting) → setting_in form.options (word_of t) ≡ None → given_of more t ≡ None
     untaken_more t e = elim (same_or s t) [
-      | inl same ↦ absurd (no_setting s (sym e ∙ ap (λ (u : Setting). setting_in form.options (word_of u)) same
+      | inl same ↦ absurd (none-some s (sym e ∙ ap (λ (u : Setting). setting_in form.options (word_of u)) same
           ∙ sym (ap (setting_in form.options) (setting_word form.options word s is)) ∙ is))
       | inr d ↦ others t d ∙ h.untaken t e
     ]
@@ -300,7 +275,7 @@ module _ (words : List (List ℕ)) (form : Form) (p : ℕ) (given : Given) (word
     range_more : (t : Setting) → ForSome (given_of more t) (λ n. takes t n ≡ true)
     range_more t = elim (same_or s t) [
       | inl same ↦ subst (λ (u : Setting). ForSome (given_of more u) (λ n. takes u n ≡ true)) (sym same)
-          (λ n e. subst (λ m. takes s m ≡ true) (same_number number n (sym set ∙ e)) in_range)
+          (λ n e. subst (λ m. takes s m ≡ true) (same_Some number n (sym set ∙ e)) in_range)
       | inr d ↦ subst (λ (o : Option ℕ). ForSome o (λ n. takes t n ≡ true)) (sym (others t d)) (h.in_range t)
     ]
 
@@ -309,7 +284,7 @@ module _ (words : List (List ℕ)) (form : Form) (p : ℕ) (given : Given) (word
       asked = h.asked;
       even = let e : (p - options_from form) % 2 ≡ 0 = h.even in let l : options_from form ≤ p = h.past in omega arith;
       past = let l : options_from form ≤ p = h.past in omega arith;
-      inside = let l : p + 1 < length words = get_inside words (p + 1) value after in omega arith;
+      inside = let l : p + 1 < length words = slice_get_within words (p + 1) value after in omega arith;
       sound = sound_more;
       placed = placed_more;
       valued = valued_more;
@@ -364,11 +339,6 @@ unknown_word word e = rw e refl
 
 -- ---- the operands
 
-pub operand_at : (operands : List Operand) (k : ℕ) (d : Operand) → k < length operands → slice_get operands k ≡ Some (get_or operands k d)
-operand_at [] k d l = absurd (omega arith)
-operand_at (operand ∷ operands) zero d l = refl
-operand_at (operand ∷ operands) (suc k) d l = operand_at operands k d (omega arith)
-
 stands_there : (operand : Operand) (word : Option (List ℕ)) → operand_fault operand word ≡ None → IsSome word
 stands_there operand None e = cc
 stands_there operand (Some word) e = refl
@@ -415,14 +385,14 @@ read_start words form given asked h none = record {
       λ s. none s ∙ sym (ap (option_and_then (λ place. option_map decimal_value (slice_get words (place + 1))))
       (no_place words form (word_of s)));
   untaken = λ s e. none s;
-  in_range = λ s n e. absurd (none_some n (sym (none s) ∙ e));
+  in_range = λ s n e. absurd (none-some n (sym (none s) ∙ e));
 }
 
 module _ (words : List (List ℕ)) (form : Form) (given : Given) (h : IsReadTo words form (length words) given) where
   sound_last : fault_at words (length words) ≡ None
   sound_last =
       fault_at-option words form (length words) h.asked h.past h.even
-      ∙ ap (option_fault form words (length words)) (get_past words (length words) (omega arith))
+      ∙ ap (option_fault form words (length words)) (slice_get_past words (length words) (omega arith))
 
   sound_all : (q : ℕ) → q < length words + 1 → fault_at words q ≡ None
   sound_all q l = elim (same_or_low q (length words) l) [
@@ -475,15 +445,12 @@ unfolding options_given
 no_options verb words none =
     ap (λ (settings : List Setting). with_numbers default_options settings (number_given (form_of verb) words)) none
 
-same_word : (a b : List ℕ) → ◌≡◌ {A = Option (List ℕ)} (Some a) (Some b) → a ≡ b
-same_word a b e = cc
-
 -- the operand of a command that has a name alone
 pub named : (words : List (List ℕ)) (name : List ℕ) → slice_get words 1 ≡ Some name
     → arguments_of (Name ∷ []) (drop 1 words) ≡ NameSaid name ∷ []
 named [] name e = cc
 named (w ∷ []) name e = cc
-named (w ∷ v ∷ words) name e = ap (λ n. NameSaid n ∷ []) (same_word v name e)
+named (w ∷ v ∷ words) name e = ap (λ n. NameSaid n ∷ []) (same_Some v name e)
 
 -- the operands of a command that has two names
 pub both_named : (words : List (List ℕ)) (first second : List ℕ) → slice_get words 1 ≡ Some first → slice_get words 2 ≡ Some second
@@ -492,7 +459,7 @@ both_named [] first second e f = cc
 both_named (w ∷ []) first second e f = cc
 both_named (w ∷ v ∷ []) first second e f = cc
 both_named (w ∷ v ∷ u ∷ words) first second e f =
-    ap (λ n. NameSaid n ∷ NameSaid u ∷ []) (same_word v first e) ∙ ap (λ n. NameSaid first ∷ NameSaid n ∷ []) (same_word u second f)
+    ap (λ n. NameSaid n ∷ NameSaid u ∷ []) (same_Some v first e) ∙ ap (λ n. NameSaid first ∷ NameSaid n ∷ []) (same_Some u second f)
 
 -- where words are read past the operands, each of them has no fault
 pub operand_stands : (words : List (List ℕ)) (form : Form) (given : Given) (n k : ℕ) (operand : Operand) → IsReadTo words form n given
@@ -511,9 +478,9 @@ replayed (w ∷ []) program report thread e f g = cc
 replayed (w ∷ p ∷ []) program report thread e f g = cc
 replayed (w ∷ p ∷ r ∷ []) program report thread e f g = cc
 replayed (w ∷ p ∷ r ∷ t ∷ words) program report thread e f g =
-    ap (λ n. NameSaid n ∷ NameSaid r ∷ ThreadSaid (decimal_value t) ∷ []) (same_word p program e)
-    ∙ ap (λ n. NameSaid program ∷ NameSaid n ∷ ThreadSaid (decimal_value t) ∷ []) (same_word r report f)
-    ∙ ap (λ n. NameSaid program ∷ NameSaid report ∷ ThreadSaid n ∷ []) (same_number (decimal_value t) thread g)
+    ap (λ n. NameSaid n ∷ NameSaid r ∷ ThreadSaid (decimal_value t) ∷ []) (same_Some p program e)
+    ∙ ap (λ n. NameSaid program ∷ NameSaid n ∷ ThreadSaid (decimal_value t) ∷ []) (same_Some r report f)
+    ∙ ap (λ n. NameSaid program ∷ NameSaid report ∷ ThreadSaid n ∷ []) (same_Some (decimal_value t) thread g)
 
 -- the operands of `debug`
 pub debugged : (words : List (List ℕ)) (program report : List ℕ) (thread : ℕ) (script : List ℕ) → slice_get words 1 ≡ Some program
@@ -526,17 +493,17 @@ debugged (w ∷ p ∷ []) program report thread script e f g h = cc
 debugged (w ∷ p ∷ r ∷ []) program report thread script e f g h = cc
 debugged (w ∷ p ∷ r ∷ t ∷ []) program report thread script e f g h = cc
 debugged (w ∷ p ∷ r ∷ t ∷ s ∷ words) program report thread script e f g h =
-    ap (λ n. NameSaid n ∷ NameSaid r ∷ ThreadSaid (decimal_value t) ∷ NameSaid s ∷ []) (same_word p program e)
-    ∙ ap (λ n. NameSaid program ∷ NameSaid n ∷ ThreadSaid (decimal_value t) ∷ NameSaid s ∷ []) (same_word r report f)
-    ∙ ap (λ n. NameSaid program ∷ NameSaid report ∷ ThreadSaid n ∷ NameSaid s ∷ []) (same_number (decimal_value t) thread g)
-    ∙ ap (λ n. NameSaid program ∷ NameSaid report ∷ ThreadSaid thread ∷ NameSaid n ∷ []) (same_word s script h)
+    ap (λ n. NameSaid n ∷ NameSaid r ∷ ThreadSaid (decimal_value t) ∷ NameSaid s ∷ []) (same_Some p program e)
+    ∙ ap (λ n. NameSaid program ∷ NameSaid n ∷ ThreadSaid (decimal_value t) ∷ NameSaid s ∷ []) (same_Some r report f)
+    ∙ ap (λ n. NameSaid program ∷ NameSaid report ∷ ThreadSaid n ∷ NameSaid s ∷ []) (same_Some (decimal_value t) thread g)
+    ∙ ap (λ n. NameSaid program ∷ NameSaid report ∷ ThreadSaid thread ∷ NameSaid n ∷ []) (same_Some s script h)
 
 -- the operand of a command that has the number of a workload alone
 pub numbered : (words : List (List ℕ)) (number : ℕ) → option_map decimal_value (slice_get words 1) ≡ Some number
     → arguments_of (Workload ∷ []) (drop 1 words) ≡ WorkloadSaid number ∷ []
 numbered [] number e = cc
 numbered (w ∷ []) number e = cc
-numbered (w ∷ v ∷ words) number e = ap (λ n. WorkloadSaid n ∷ []) (same_number (decimal_value v) number e)
+numbered (w ∷ v ∷ words) number e = ap (λ n. WorkloadSaid n ∷ []) (same_Some (decimal_value v) number e)
 
 -- the options of `bench`: the cores alone are read
 pub bench_options : (words : List (List ℕ)) (given : Given) → IsReadTo words (form_of Bench) (length words) given
@@ -556,11 +523,11 @@ counted (w ∷ p ∷ []) program report thread count e f g h = cc
 counted (w ∷ p ∷ r ∷ []) program report thread count e f g h = cc
 counted (w ∷ p ∷ r ∷ t ∷ []) program report thread count e f g h = cc
 counted (w ∷ p ∷ r ∷ t ∷ c ∷ words) program report thread count e f g h =
-    ap (λ n. NameSaid n ∷ NameSaid r ∷ ThreadSaid (decimal_value t) ∷ CountSaid (decimal_value c) ∷ []) (same_word p program e)
-    ∙ ap (λ n. NameSaid program ∷ NameSaid n ∷ ThreadSaid (decimal_value t) ∷ CountSaid (decimal_value c) ∷ []) (same_word r report f)
+    ap (λ n. NameSaid n ∷ NameSaid r ∷ ThreadSaid (decimal_value t) ∷ CountSaid (decimal_value c) ∷ []) (same_Some p program e)
+    ∙ ap (λ n. NameSaid program ∷ NameSaid n ∷ ThreadSaid (decimal_value t) ∷ CountSaid (decimal_value c) ∷ []) (same_Some r report f)
     ∙ ap (λ n. NameSaid program ∷ NameSaid report ∷ ThreadSaid n ∷ CountSaid (decimal_value c) ∷ [])
-    (same_number (decimal_value t) thread g)
-    ∙ ap (λ n. NameSaid program ∷ NameSaid report ∷ ThreadSaid thread ∷ CountSaid n ∷ []) (same_number (decimal_value c) count h)
+    (same_Some (decimal_value t) thread g)
+    ∙ ap (λ n. NameSaid program ∷ NameSaid report ∷ ThreadSaid thread ∷ CountSaid n ∷ []) (same_Some (decimal_value c) count h)
 
 -- the operands of `resume`
 pub resumed : (words : List (List ℕ)) (program report checkpoint : List ℕ) → slice_get words 1 ≡ Some program
@@ -571,9 +538,9 @@ resumed (w ∷ []) program report checkpoint e f g = cc
 resumed (w ∷ p ∷ []) program report checkpoint e f g = cc
 resumed (w ∷ p ∷ r ∷ []) program report checkpoint e f g = cc
 resumed (w ∷ p ∷ r ∷ c ∷ words) program report checkpoint e f g =
-    ap (λ n. NameSaid n ∷ NameSaid r ∷ NameSaid c ∷ []) (same_word p program e)
-    ∙ ap (λ n. NameSaid program ∷ NameSaid n ∷ NameSaid c ∷ []) (same_word r report f)
-    ∙ ap (λ n. NameSaid program ∷ NameSaid report ∷ NameSaid n ∷ []) (same_word c checkpoint g)
+    ap (λ n. NameSaid n ∷ NameSaid r ∷ NameSaid c ∷ []) (same_Some p program e)
+    ∙ ap (λ n. NameSaid program ∷ NameSaid n ∷ NameSaid c ∷ []) (same_Some r report f)
+    ∙ ap (λ n. NameSaid program ∷ NameSaid report ∷ NameSaid n ∷ []) (same_Some c checkpoint g)
 
 -- the options of `vectors`: the lengths and the cores alone are read
 pub vector_numbers : (words : List (List ℕ)) (given : Given) → IsReadTo words (form_of Vectors) (length words) given

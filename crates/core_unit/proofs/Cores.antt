@@ -4,6 +4,7 @@ use Rattle.std.proofs.Common.{true, false}
 use Rattle.std.specs.Prelude.{slice_get, slice_index_or, All}
 use Rattle.std.proofs.lemmas.List.Elements.{All-cons, All-tail, All-head, All-push}
 use Rattle.std.proofs.lemmas.Option.{same_Some, none-some}
+use Rattle.std.proofs.lemmas.Bool.{or_left}
 use Rattle.sm_types.specs.declared.config.Config.{Config}
 use Rattle.sm_types.specs.declared.shared_op.Event.{Event}
 use Rattle.shared_region.specs.Tickets.{Refusals}
@@ -19,7 +20,7 @@ use Rattle.core_unit.specs.Residents.{RunsHere, HasRetired}
 use Rattle.core_unit.specs.Run.{RunsCore, core_after, is_stop}
 use Rattle.core_unit.specs.declared.run.CoreRun.{CoreRun}
 use Rattle.core_unit.specs.declared.run.RunWhy.TheVariants.{Idle}
-use Rattle.core_unit.proofs.Owners.{told_as, told_rest, is_own, or_left}
+use Rattle.core_unit.proofs.Owners.{told_as, told_rest, is_own}
 use Rattle.core_unit.proofs.Runs.{never_idle}
 
 -- a list that has a first item

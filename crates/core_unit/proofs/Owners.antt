@@ -1,11 +1,13 @@
 -- Who owns the bank of a core: numbers of threads that are apart, and the residents with these.
 use Rattle.std.proofs.Common.{◌≡◌, ◌≢◌, ℕ, zero, suc, ◌==◌, List, [], ◌∷◌, ◌++◌, map, Option, Some, None, Bool, true, false}
 use Rattle.std.proofs.Common.{refl, sym, ap, ◌∙◌, subst, cond, arith}
-use Rattle.std.specs.Prelude.{◌&&◌, ◌||◌, not, All, slice_get, slice_index_or, length, ◌<◌}
+use Rattle.std.specs.Prelude.{not, All, slice_get}
 use Rattle.std.proofs.lemmas.Bool.Decides.{nat_tests}
 use Rattle.std.proofs.lemmas.Option.{same_Some, none-some}
 use Rattle.std.proofs.lemmas.List.{map-append}
 use Rattle.std.proofs.lemmas.List.Elements.{All-tail, All-head}
+use Rattle.std.proofs.lemmas.Bool.{or_left, or_right, not_from_false, not-true, and_from, or_from}
+use Rattle.plain_lemmas.proofs.Tests.{or_elim, and_second, and_first, or_resolve_left, or_second, or_first}
 use Rattle.mem_access.specs.Bank.{bank_state}
 use Rattle.mem_access.specs.declared.bank.Bank.{Bank}
 use Rattle.kernel_contexts.specs.Owner.{is_owner, owns}
@@ -15,46 +17,10 @@ use Rattle.kernel_contexts.specs.Guest.{guest_with, guest_of, guest_on}
 use Rattle.core_unit.specs.Held.{Held, held_of, held_on}
 use Rattle.core_unit.specs.Owners.{owns_among, are_apart, numbers_of, IsTold, freed}
 
-pub or_first : (a b : Bool) → (a || b) ≡ false → a ≡ false
-or_first true b e = e
-or_first false b e = refl
-
-pub or_second : (a b : Bool) → (a || b) ≡ false → b ≡ false
-or_second true b e = cc
-or_second false b e = e
-
-or_both : (a b : Bool) → a ≡ false → b ≡ false → (a || b) ≡ false
-or_both true b e f = cc
-or_both false b e f = f
-
-or_rest : (a b : Bool) → (a || b) ≡ true → a ≡ false → b ≡ true
-or_rest true b e f = cc
-or_rest false b e f = e
-
-and_first : (a b : Bool) → (a && b) ≡ true → a ≡ true
-and_first true b e = refl
-and_first false b e = cc
-
-and_second : (a b : Bool) → (a && b) ≡ true → b ≡ true
-and_second true b e = e
-and_second false b e = cc
-
-and_both : (a b : Bool) → a ≡ true → b ≡ true → (a && b) ≡ true
-and_both true b e f = f
-and_both false b e f = cc
-
-not_true : (a : Bool) → not a ≡ true → a ≡ false
-not_true true e = sym e
-not_true false e = refl
-
-not_false : (a : Bool) → a ≡ false → not a ≡ true
-not_false true e = cc
-not_false false e = refl
-
 -- ---- numbers
 
 pub apart_first : (n : ℕ) (ns : List ℕ) → are_apart (n ∷ ns) ≡ true → owns_among (Some n) ns ≡ false
-apart_first n ns h = not_true _ (and_first (not (owns_among (Some n) ns)) (are_apart ns) h)
+apart_first n ns h = not-true _ (and_first (not (owns_among (Some n) ns)) (are_apart ns) h)
 
 pub apart_rest : (n : ℕ) (ns : List ℕ) → are_apart (n ∷ ns) ≡ true → are_apart ns ≡ true
 apart_rest n ns h = and_second (not (owns_among (Some n) ns)) (are_apart ns) h
@@ -78,32 +44,20 @@ other_owns owner n ns is h = ap (λ o. owns_among o ns) is ∙ apart_first n ns 
 
 among_snoc : (owner : Option ℕ) (ns : List ℕ) (n : ℕ) → owns_among owner ns ≡ false → is_owner owner n ≡ false
     → owns_among owner (ns ++ n ∷ []) ≡ false
-among_snoc owner [] n h l = or_both _ _ l refl
+among_snoc owner [] n h l = or_from _ _ l refl
 among_snoc owner (m ∷ ms) n h l =
-    or_both _ _ (or_first (is_owner owner m) (owns_among owner ms) h)
+    or_from _ _ (or_first (is_owner owner m) (owns_among owner ms) h)
     (among_snoc owner ms n (or_second (is_owner owner m) (owns_among owner ms) h) l)
-
-or_true : (a b : Bool) → b ≡ true → (a || b) ≡ true
-or_true true b e = refl
-or_true false b e = e
-
-pub or_left : (a b : Bool) → a ≡ true → (a || b) ≡ true
-or_left true b e = refl
-or_left false b e = cc
-
-either_or : (a b : Bool) → (C : Type 0) → (a || b) ≡ true → (a ≡ true → C) → (b ≡ true → C) → C
-either_or true b C e f g = f refl
-either_or false b C e f g = g e
 
 -- one of these is one of more
 pub among_more : (owner : Option ℕ) (ns : List ℕ) (n : ℕ) → owns_among owner ns ≡ true → owns_among owner (ns ++ n ∷ []) ≡ true
 among_more owner [] n h = cc
 among_more owner (m ∷ ms) n h =
-    either_or (is_owner owner m) (owns_among owner ms) _ h (λ l. or_left _ _ l) (λ l. or_true _ _ (among_more owner ms n l))
+    or_elim (is_owner owner m) (owns_among owner ms) h (λ l. or_left _ _ l) (λ l. or_right _ _ (among_more owner ms n l))
 
 among_last : (owner : Option ℕ) (ns : List ℕ) (n : ℕ) → is_owner owner n ≡ true → owns_among owner (ns ++ n ∷ []) ≡ true
 among_last owner [] n h = or_left _ _ h
-among_last owner (m ∷ ms) n h = or_true _ _ (among_last owner ms n h)
+among_last owner (m ∷ ms) n h = or_right _ _ (among_last owner ms n h)
 
 pub other_number : (m n : ℕ) → is_owner (Some n) m ≡ false → is_owner (Some m) n ≡ false
 other_number m n e = grind (arith, nat_tests)
@@ -112,7 +66,7 @@ other_number m n e = grind (arith, nat_tests)
 pub apart_snoc : (ns : List ℕ) (n : ℕ) → are_apart ns ≡ true → owns_among (Some n) ns ≡ false → are_apart (ns ++ n ∷ []) ≡ true
 apart_snoc [] n h l = refl
 apart_snoc (m ∷ ms) n h l =
-    and_both _ _ (not_false _ (among_snoc (Some m) ms n (apart_first m ms h)
+    and_from _ _ (not_from_false _ (among_snoc (Some m) ms n (apart_first m ms h)
     (other_number m n (or_first (is_owner (Some n) m) (owns_among (Some n) ms) l))))
     (apart_snoc ms n (apart_rest m ms h) (or_second (is_owner (Some n) m) (owns_among (Some n) ms) l))
 
@@ -123,7 +77,7 @@ apart_turned n ns h = apart_snoc ns n (apart_rest n ns h) (apart_first n ns h)
 pub among_turned : (owner : Option ℕ) (n : ℕ) (ns : List ℕ) → owns_among owner (n ∷ ns) ≡ true
     → owns_among owner (ns ++ n ∷ []) ≡ true
 among_turned owner n ns h =
-    either_or (is_owner owner n) (owns_among owner ns) _ h (λ l. among_last owner ns n l) (λ l. among_more owner ns n l)
+    or_elim (is_owner owner n) (owns_among owner ns) h (λ l. among_last owner ns n l) (λ l. among_more owner ns n l)
 
 pub other_not : (m n : ℕ) → m ≢ n → is_owner (Some n) m ≡ false
 other_not m n e = grind (arith, nat_tests)
@@ -133,17 +87,8 @@ pub absent_none : {T : Type 0} (n : ℕ) (hs : List (Held T)) → All (λ h. h.g
     → owns_among (Some n) (numbers_of hs) ≡ false
 absent_none n [] h = refl
 absent_none n (k ∷ hs) h =
-    or_both _ _ (other_not k.guest.number n (All-head (λ x. x.guest.number ≢ n) k hs h))
+    or_from _ _ (other_not k.guest.number n (All-head (λ x. x.guest.number ≢ n) k hs h))
     (absent_none n hs (All-tail (λ x. x.guest.number ≢ n) k hs h))
-
-pub found_at : {X : Type 0} (xs : List X) (i : ℕ) (x : X) → i < length xs → x ≡ slice_index_or xs i x → slice_get xs i ≡ Some x
-found_at [] i x l e = absurd (omega arith)
-found_at (y ∷ ys) zero x l e = ap (λ z. Some z) (sym e)
-found_at (y ∷ ys) (suc i) x l e = found_at ys i x (omega arith) e
-
-pub empty_of : {X : Type 0} (xs : List X) → length xs ≡ 0 → xs ≡ []
-empty_of [] e = refl
-empty_of (x ∷ xs) e = absurd (omega (arith, e))
 
 abbrev head_or : {X : Type 0} → X → List X → X
 head_or x [] = x
@@ -152,9 +97,6 @@ head_or x (y ∷ ys) = y
 abbrev tail_of : {X : Type 0} → List X → List X
 tail_of [] = []
 tail_of (y ∷ ys) = ys
-
-pub same_heads : {X : Type 0} (x y : X) (xs ys : List X) → x ∷ xs ≡ y ∷ ys → x ≡ y
-same_heads x y xs ys e = ap (head_or x) e
 
 pub same_tails : {X : Type 0} (x y : X) (xs ys : List X) → x ∷ xs ≡ y ∷ ys → xs ≡ ys
 same_tails x y xs ys e = ap tail_of e
@@ -165,7 +107,7 @@ freed_test : (b : Bool) (k m n : ℕ) (ns : List ℕ) → (k == m) ≡ b → (So
     → cond b None (Some k) ≡ Some n → owns_among (Some n) ns ≡ true
 freed_test true k m n ns test h is = absurd (none-some n is)
 freed_test false k m n ns test h is =
-    or_rest (is_owner (Some n) m) (owns_among (Some n) ns) (h is) (ap (λ j. j == m) (sym (same_Some k n is)) ∙ test)
+    or_resolve_left (is_owner (Some n) m) (owns_among (Some n) ns) (h is) (ap (λ j. j == m) (sym (same_Some k n is)) ∙ test)
 
 freed_among : (owner : Option ℕ) (m n : ℕ) (ns : List ℕ) → (owner ≡ Some n → owns_among (Some n) (m ∷ ns) ≡ true)
     → freed owner m ≡ Some n → owns_among (Some n) ns ≡ true
@@ -267,7 +209,7 @@ module _ {X T : Type 0} (context : X → Context) (ticket : X → T) where
   pub none_at : (n : ℕ) (xs : List X) → ((i : ℕ) (x : X) → slice_get xs i ≡ Some x → thread_of (context x) ≢ n)
       → owns_among (Some n) (threads xs) ≡ false
   none_at n [] h = refl
-  none_at n (x ∷ xs) h = or_both _ _ (other_not (thread_of (context x)) n (h 0 x refl)) (none_at n xs (λ i y get. h (suc i) y get))
+  none_at n (x ∷ xs) h = or_from _ _ (other_not (thread_of (context x)) n (h 0 x refl)) (none_at n xs (λ i y get. h (suc i) y get))
 
   pub apart_threads : (bank : Bank) (xs : List X) → are_apart (numbers_of (held_on context ticket bank xs)) ≡ true
       → are_apart (threads xs) ≡ true

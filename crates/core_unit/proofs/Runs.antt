@@ -14,7 +14,7 @@ use Rattle.shared_region.specs.declared.port.PortStop.TheVariants as refused
 use Rattle.kernel_contexts.specs.State.{State}
 use Rattle.kernel_contexts.specs.Call.{TurnEnd, Goes, Yields, Asks, Ends}
 use Rattle.kernel_contexts.specs.Turn.{turn_of}
-use Rattle.kernel_contexts.specs.Several.{GoesApart}
+use Rattle.kernel_contexts.specs.Several.{GoesApart, never}
 use Rattle.kernel_contexts.specs.Stance.{TurnsOn}
 use Rattle.kernel_contexts.specs.Context.{GoesOn, TurnsOver, TurnsUnless, AsksFor, made_since, owns, vectors_on}
 use Rattle.kernel_contexts.specs.Context.{state_on, turn_with, made_by, stop_of, thread_of, config_of}
@@ -341,7 +341,7 @@ pub record IsGoneBy (apart : Bool) (now : Guest) (m : ℕ) (next : Guest) : Type
   pub journal : next.journal ≡ now.journal
   pub runs : now.stop ≡ None
   pub stop : next.stop ≡ None
-  pub goes : GoesApart apart now.config now.number (length now.journal) m now.state next.state
+  pub goes : GoesApart never apart now.config now.number (length now.journal) m now.state next.state
 
 module _ (apart : Bool) (old : Guest) where
   nowhere : (now next : Guest) → IsGoneBy apart now 0 next → next ≡ now

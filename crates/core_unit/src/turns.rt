@@ -8,6 +8,7 @@ ghost use Rattle.core_unit.specs.Run.{end_of_turn};
 use crate::resident::Resident;
 use crate::run::{CoreRun, RunWhy};
 use kernel_contexts::Turn;
+use machine_step::Never;
 use mem_access::Bank;
 use shared_region::Port;
 
@@ -80,7 +81,10 @@ pub fn make_turns<P: Port>(
         match end_of_turn(turn) {
             None => {
                 turns += 1;
-                turns += resident.context.advance_several_on(bank, k - turns);
+                turns += resident
+                    .context
+                    .advance_several_on(bank, &Never, k - turns)
+                    .count;
             }
             Some(why) => {
                 let made = (resident.context.turns() - begun) as u32;

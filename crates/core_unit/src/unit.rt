@@ -23,8 +23,8 @@ use std::alloc::Global;
 pub const PLACES: usize = 8;
 
 /// A core: a queue of residents, of which the first one makes turns, threads that have stopped, and a bank.
-/// There are at most eight residents and stopped threads together. The bank has the vectors and ZA of the
-/// last resident that needed it, which is its owner; those of all others are in their save areas.
+/// There are at most eight residents and stopped threads together. The bank has the vectors and ZA of its
+/// owner, where it has one, which is a resident; those of all others are in their save areas.
 #[derive(Drop)]
 pub struct Core<P: Port> {
     number: u32,
@@ -124,12 +124,13 @@ impl<P: Port> Core<P> {
         Ok(())
     }
 
-    /// Lets the first resident make so many turns at most, until it gives way or stops; one that has
-    /// stopped is done with. `Idle` comes exactly where there is no resident, and leaves the port as it is.
-    /// `TraceEnds` and `TraceDiffers` come only where, before that, the next turn asks an operation that the
-    /// port refuses so, as port and ticket stand at the end; `Memory` comes only where memory may be wanting
-    /// for the next turn. Exactly where the resident begins a turn that reads or writes vectors, it owns the
-    /// bank from the first of these on; else the owner stays. One that stops owns the bank no more.
+    /// Lets the first resident make so many turns at most, until it yields or stops; one that has stopped is
+    /// done with. `Idle` comes exactly where there is no resident, and leaves the port as it is. `TraceEnds`
+    /// and `TraceDiffers` come only if, before that, the next turn asks an operation that the port refuses so,
+    /// as port and ticket stand at the end; `Memory` comes only if memory may be wanting for the next turn of
+    /// some context with the resident's plain state. If the resident began a turn that reads or writes
+    /// vectors, it owns the bank after the run; else the owner is the one before. No clause says at which turn
+    /// of the run the bank moves. One that stopped owns the bank no more.
     pub fn run(&mut self, port: &mut P, k: u32) -> CoreRun
         requires belong { BelongTo (λ t. (P.tells t).name) (P.name port.old) (core_state self.old) }
         ensures run { RunsCore (λ t. P.refuses port.new t)

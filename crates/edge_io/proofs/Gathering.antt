@@ -2,7 +2,7 @@
 use Rattle.std.proofs.Common.{◌≡◌, ℕ, ◌+◌, ◌<◌, ◌≤◌, ◌++◌, List, [], length, take, drop, get_or, refl, ap, sym, ◌∙◌, arith, subst}
 use Rattle.std.proofs.Common.{append_assoc, Result, Ok, Err}
 use Rattle.std.proofs.lemmas.Grind.{common_steps, flat_map-append}
-use Rattle.std.proofs.lemmas.List.{take-append-drop, take_more}
+use Rattle.std.proofs.lemmas.List.{take-append-drop, take_more, length-append, append-nil}
 use Rattle.std.specs.List.{flat_map}
 use Rattle.std.specs.Result.{IsErr}
 use Rattle.edge_io.specs.Pieces.{Gathered, Gathers, piece_size}
@@ -11,9 +11,6 @@ use Rattle.edge_io.specs.Sofar.{SoFar}
 use Rattle.edge_io.specs.declared.sink.PutFault.{PutFault}
 use Rattle.edge_io.proofs.Writing.{writes_none, writes_then, writes_stop, writes_as}
 
-nothing_left : (s : List ℕ) → s ++ [] ≡ s
-nothing_left s = grind (arith, common_steps)
-
 -- what was held and the first text were written or are held, and so are then what is held and the second
 regroup : (v w c b t a s : List ℕ) → v ++ b ≡ a ++ s → w ++ c ≡ b ++ t → (v ++ w) ++ c ≡ a ++ (s ++ t)
 regroup v w c b t a s h k = append_assoc v w c ∙ ap (λ l. v ++ l) k ∙ sym (append_assoc v b t) ∙ ap (λ l. l ++ t) h ∙ append_assoc a s t
@@ -21,16 +18,13 @@ regroup v w c b t a s h k = append_assoc v w c ∙ ap (λ l. v ++ l) k ∙ sym (
 follows : (v b t a s : List ℕ) → v ++ b ≡ a ++ s → v ++ (b ++ t) ≡ a ++ (s ++ t)
 follows v b t a s h = sym (append_assoc v b t) ∙ ap (λ l. l ++ t) h ∙ append_assoc a s t
 
-length-both : (s t : List ℕ) → length (s ++ t) ≡ length s + length t
-length-both s t = grind (arith, common_steps)
-
 room_first : (h s t : List ℕ) → length h + length (s ++ t) ≤ piece_size → length h + length s ≤ piece_size
-room_first h s t fits = omega (arith, length-both s t)
+room_first h s t fits = omega (arith, length-append s t)
 
 room_second : (w b a s t : List ℕ) → w ++ b ≡ a ++ s → length a + length (s ++ t) ≤ piece_size → length b + length t ≤ piece_size
 room_second w b a s t e fits =
     let size : length (w ++ b) ≡ length (a ++ s) = ap length e in
-    omega (arith, length-both w b, length-both a s, length-both s t)
+    omega (arith, length-append w b, length-append a s, length-append s t)
 
 gathers_then : (a b c : Gathered) (r : Result Unit PutFault) (s t : List ℕ) → Gathers a b (Ok tt) s → Gathers b c r t
     → Gathers a c r (s ++ t)
@@ -72,7 +66,7 @@ pub and_stop : {a b : Gathered} {e : PutFault} {r : Result Unit PutFault} {s : L
 and_stop t h e = gathers_stop _ _ _ _ _ _ e refl h
 
 pub and_end : {a b : Gathered} {r : Result Unit PutFault} {s : List ℕ} → Gathers a b r s → Gathers a b r (s ++ [])
-and_end {s = s} h = as_text (sym (nothing_left s)) h
+and_end {s = s} h = as_text (sym (append-nil s)) h
 
 -- bytes are gathered
 pub gathers_more : (a b : Gathered) (text : List ℕ) → b.sink ≡ a.sink → b.held ≡ a.held ++ text → Gathers a b (Ok tt) text
@@ -83,7 +77,7 @@ gathers_more a b text same e = record {
 }
 
 pub gathers_none : (a : Gathered) → Gathers a a (Ok tt) []
-gathers_none a = gathers_more a a [] refl (sym (nothing_left a.held))
+gathers_none a = gathers_more a a [] refl (sym (append-nil a.held))
 
 too_long : (h t : List ℕ) → piece_size < length h + length t → length h + length t ≤ piece_size → ⊥
 too_long h t l fits = absurd (omega arith)
@@ -101,7 +95,7 @@ gathers_after a b c text long w none_held same e = record {
 pub gathers_past : (a b c : Gathered) (r : Result Unit PutFault) (text : List ℕ) → piece_size < length a.held + length text
     → Writes a.sink b.sink (Ok tt) a.held → c.held ≡ [] → Writes b.sink c.sink r text → Gathers a c r text
 gathers_past a b c (Ok tt) text long w none_left k = record {
-  ok = (a.held ++ text, writes_then _ _ _ _ _ _ w k, ap (λ l. (a.held ++ text) ++ l) none_left ∙ nothing_left (a.held ++ text));
+  ok = (a.held ++ text, writes_then _ _ _ _ _ _ w k, ap (λ l. (a.held ++ text) ++ l) none_left ∙ append-nil (a.held ++ text));
   failed = tt;
   spared = λ fits. absurd (too_long a.held text long fits);
 }
@@ -145,7 +139,7 @@ sofar_stop {s = s} rest e h k is =
     as_text (ap (λ l. h.text ++ l) (sym e) ∙ h.whole) (gathers_then _ _ _ _ _ _ h.gathers (and_stop rest k is))
 
 pub sofar_end : {a b : Gathered} {rest all : List ℕ} → rest ≡ [] → SoFar a b rest all → Gathers a b (Ok tt) all
-sofar_end {rest = rest} {all = all} e h = as_text (sym (nothing_left h.text) ∙ ap (λ l. h.text ++ l) (sym e) ∙ h.whole) h.gathers
+sofar_end {rest = rest} {all = all} e h = as_text (sym (append-nil h.text) ∙ ap (λ l. h.text ++ l) (sym e) ∙ h.whole) h.gathers
 
 -- ---- parts one after another
 

@@ -2,6 +2,7 @@
 use Rattle.std.proofs.Common.{true, false, ◌≡◌, ℕ, suc, ◌+◌, ◌≤◌, ◌++◌, List, [], ◌∷◌, length, take, min, refl, ap, sym, ◌∙◌, arith, subst}
 use Rattle.std.proofs.Common.{append_assoc, Option, Some, None, Result, Ok, Err}
 use Rattle.std.proofs.lemmas.Grind.{common_steps}
+use Rattle.std.proofs.lemmas.List.{length-append}
 use Rattle.std.specs.Prelude.{IsOk}
 use Rattle.std.specs.Result.{IsErr}
 use Rattle.edge_io.specs.Cause.{Rose}
@@ -23,19 +24,16 @@ take-both (x ∷ s) t n = let e : suc (length s) + n ≡ suc (length s + n) = om
 take-first : (s t : List ℕ) (n : ℕ) → take (min n (length s)) (s ++ t) ≡ take n s
 take-first s t n = grind (arith, common_steps)
 
-length-both : (s t : List ℕ) → length (s ++ t) ≡ length s + length t
-length-both s t = grind (arith, common_steps)
-
 -- where both texts fit, the first does
 fits_first : (s t : List ℕ) (room : ℕ) → length (s ++ t) ≤ room → length s ≤ room
-fits_first s t room fits = omega (arith, length-both s t)
+fits_first s t room fits = omega (arith, length-append s t)
 
 -- and the second then does
 fits_second : (s t : List ℕ) (room left : ℕ) → length (s ++ t) ≤ room → room ≤ length s + left → length t ≤ left
-fits_second s t room left fits h = omega (arith, length-both s t)
+fits_second s t room left fits h = omega (arith, length-append s t)
 
 fits_left : (s t : List ℕ) (room left last : ℕ) → room ≤ length s + left → left ≤ length t + last → room ≤ length (s ++ t) + last
-fits_left s t room left last h k = omega (arith, length-both s t)
+fits_left s t room left last h k = omega (arith, length-append s t)
 
 fits_both : (a b c : SinkView) (r : Result Unit PutFault) (s t : List ℕ) → Writes a b (Ok tt) s → Writes b c r t → length (s ++ t) ≤ a.room
     → IsOk r × (a.room ≤ length (s ++ t) + c.room)

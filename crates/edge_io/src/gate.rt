@@ -2,8 +2,9 @@
 
 /// A place to hold or to watch workers at, as a test of schedules does.
 pub trait Gate {
-    /// Is called by the worker `core` before each run that it lets a guest thread make. `turn` is how many
-    /// runs it let be made before, and `work` the number of the guest thread that it is about to run.
+    /// The worker `core` calls it once for each run that it lets a guest thread make: as its body stands,
+    /// before that run, which no clause says. `turn` is how many runs it let be made before, and `work` the
+    /// number of the guest thread of the run.
     fn pass(&self, core: u32, turn: u64, work: u32);
 }
 

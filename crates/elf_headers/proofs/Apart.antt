@@ -1,10 +1,12 @@
 -- Loads that have no address in common.
-use Rattle.std.proofs.Common.{◌≡◌, ◌≢◌, ℕ, zero, suc, ◌+◌, ◌<◌, ◌≤◌, Bool, true, false, List, [], ◌∷◌, length, get_or, Some, None, refl, ap}
+use Rattle.std.proofs.Common.{◌≡◌, ◌≢◌, ℕ, ◌+◌, ◌<◌, ◌≤◌, true, false, List, [], get_or, Some, None, refl, ap}
 use Rattle.std.proofs.Common.{sym, ◌∙◌, arith}
 use Rattle.std.specs.Prelude.{◌&&◌, nat_lt, Contains}
 use Rattle.std.specs.List.Sorted.{IsPermutation}
 use Rattle.std.proofs.lemmas.List.Sorted.{Contains-permutation}
 use Rattle.std.proofs.lemmas.Bool.Decides.{nat_tests}
+use Rattle.std.proofs.lemmas.Bool.{and_parts}
+use Rattle.std.proofs.lemmas.List.{get_or_default}
 use Rattle.elf_headers.specs.declared.fault.LoadFault.TheVariants.{Overlap}
 use Rattle.elf_headers.specs.declared.spans.Span.{Span}
 use Rattle.elf_headers.specs.Below.{first_below}
@@ -33,26 +35,16 @@ span_there file spans i perm below load =
     Contains-permutation (spans_of file) spans (span file i) perm
     (Contains-answers_below (span_at file) i (program_header_count file) (span file i) (span_is file i load) below)
 
--- a default changes nothing within a list
-default_any : (spans : List Span) (p : ℕ) (d e : Span) → p < length spans → get_or spans p d ≡ get_or spans p e
-default_any [] p d e h = absurd (omega arith)
-default_any (s ∷ spans) zero d e h = refl
-default_any (s ∷ spans) (suc p) d e h = default_any spans p d e (omega arith)
-
-and_split : (a b : Bool) → (a && b) ≡ true → (a ≡ true) × (b ≡ true)
-and_split true b h = (refl, h)
-and_split false b h = cc
-
 pair_apart : (file : List ℕ) (spans : List Span) (least i j : ℕ) → IsPermutation (spans_of file) spans → IsClearBelow spans least
     → i < least → i < program_header_count file → j < program_header_count file
     → i < j → is_load (segment_of file i) ≡ true → is_load (segment_of file j) ≡ true → share (segment_of file i) (segment_of file j) ≡ true
     → ⊥
 pair_apart file spans least i j perm clear low li lj order one other shared =
-    let near = and_split (nat_lt (segment_of file i).address ((segment_of file j).address + (segment_of file j).memory_size)) _ shared in
+    let near = and_parts (nat_lt (segment_of file i).address ((segment_of file j).address + (segment_of file j).memory_size)) _ shared in
     let a = span_there file spans i perm li one in
     let b = span_there file spans j perm lj other in
     let at_i : get_or spans a.0 (span file i) ≡ span file i = a.2 in
-    let at_j : get_or spans b.0 (span file i) ≡ span file j = default_any spans b.0 (span file i) (span file j) b.1 ∙ b.2 in
+    let at_j : get_or spans b.0 (span file i) ≡ span file j = get_or_default spans b.0 (span file i) (span file j) b.1 ∙ b.2 in
     let apart : a.0 ≢ b.0 =
     λ e. let same : i ≡ j =
     sym (ap (λ s. s.header) at_i) ∙ ap (λ k. (get_or spans k (span file i)).header) e ∙ ap (λ s. s.header) at_j in omega arith in
@@ -74,9 +66,9 @@ pair_clear file spans least i j perm clear low li lj =
     → fault_when t (Overlap i j) ≡ None) [
       | false ↦ λ t. refl
       | true ↦ λ t.
-          let shared = and_split (nat_lt i j && is_load (segment_of file i) && is_load (segment_of file j)) _ t in
-          let other = and_split (nat_lt i j && is_load (segment_of file i)) _ shared.0 in
-          let one = and_split (nat_lt i j) _ other.0 in
+          let shared = and_parts (nat_lt i j && is_load (segment_of file i) && is_load (segment_of file j)) _ t in
+          let other = and_parts (nat_lt i j && is_load (segment_of file i)) _ shared.0 in
+          let one = and_parts (nat_lt i j) _ other.0 in
           let order : i < j = grind (arith, nat_tests, one.0) in
           absurd (pair_apart file spans least i j perm clear low li lj order one.1 other.1 shared.1)
     ] refl

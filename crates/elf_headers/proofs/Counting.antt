@@ -1,9 +1,10 @@
 -- Counting the pages of spans in order of address.
-use Rattle.std.proofs.Common.{◌⊎◌, inl, inr, ◌≡◌, ℕ, ◌+◌, ◌-◌, ◌/◌, ◌^◌, ◌<◌, ◌≤◌, max, Bool, true, false, List, length, get_or, refl, sym}
+use Rattle.std.proofs.Common.{inl, inr, ◌≡◌, ℕ, ◌+◌, ◌-◌, ◌/◌, ◌^◌, ◌<◌, ◌≤◌, max, Bool, true, false, List, length, get_or, refl, sym}
 use Rattle.std.proofs.Common.{◌∙◌, arith}
 use Rattle.std.specs.Prelude.{◌||◌}
 use Rattle.std.specs.List.Sorted.{IsNonDecreasingBy}
 use Rattle.std.proofs.lemmas.Bool.Decides.{nat_tests}
+use Rattle.std.proofs.lemmas.Bool.{cases_lt, or_left, or_right}
 use Rattle.elf_headers.specs.declared.spans.Span.{Span}
 use Rattle.elf_headers.specs.Below.{any_below, count_below}
 use Rattle.elf_headers.specs.Spans.{touches_page, pages_below, IsLow}
@@ -38,20 +39,9 @@ counted_none spans =
       empty = λ e. refl;
     }
 
-or_true : (a b : Bool) → b ≡ true → (a || b) ≡ true
-or_true true b h = refl
-or_true false b h = h
-
-or_left : (a b : Bool) → a ≡ true → (a || b) ≡ true
-or_left true b h = refl
-or_left false b h = cc
-
 or_false : (a b : Bool) → b ≡ false → (a || b) ≡ a
 or_false true b h = refl
 or_false false b h = h
-
-low_or : (a b : ℕ) → (a < b) ⊎ (b ≤ a)
-low_or a b = grind arith
 
 abbrev pub first_of : List Span → ℕ → ℕ
 first_of spans i = (get_or spans i no_span).address / 4096
@@ -66,7 +56,7 @@ unfolding touched_by
 touched-next spans i n = any_below-next _ i
 
 touched-inside : (spans : List Span) (i n : ℕ) → first_of spans i ≤ n → n < past_of spans i → touched_by spans (i + 1) n ≡ true
-touched-inside spans i n a b = touched-next spans i n ∙ or_true (touched_by spans i n) _ (grind (arith, nat_tests))
+touched-inside spans i n a b = touched-next spans i n ∙ or_right (touched_by spans i n) _ (grind (arith, nat_tests))
 
 touched-below : (spans : List Span) (i n : ℕ) → n < first_of spans i → touched_by spans (i + 1) n ≡ touched_by spans i n
 touched-below spans i n a = touched-next spans i n ∙ or_false (touched_by spans i n) _ (grind (arith, nat_tests))
@@ -81,14 +71,14 @@ module _ (spans : List Span) (i next count : ℕ) (sorted : IsNonDecreasingBy (�
     (was : IsCounted spans i next count) where
   -- a page below the next one that the new span reaches was touched before
   filled : (n : ℕ) → first_of spans i ≤ n → n < next → touched_by spans i n ≡ true
-  filled n a b = elim (low_or 0 i) [
+  filled n a b = elim (cases_lt 0 i) [
     | inl p ↦ let up : (get_or spans (i - 1) no_span).address ≤ (get_or spans i no_span).address =
         sorted (i - 1) i no_span (omega arith) inside in was.full n p (omega arith) b
     | inr z ↦ let none : next ≡ 0 = was.empty (omega arith) in absurd (omega arith)
   ]
 
   same_below : (n : ℕ) → n < next → touched_by spans (i + 1) n ≡ touched_by spans i n
-  same_below n l = elim (low_or n (first_of spans i)) [
+  same_below n l = elim (cases_lt n (first_of spans i)) [
     | inl b ↦ touched-below spans i n b
     | inr g ↦ let t : touched_by spans i n ≡ true = filled n g l in touched-still spans i n t ∙ sym t
   ]
@@ -96,9 +86,9 @@ module _ (spans : List Span) (i next count : ℕ) (sorted : IsNonDecreasingBy (�
 total : (f : ℕ → Bool) (first past next count : ℕ) → first < past → count_below f next ≡ count
     → ((n : ℕ) → next ≤ n → n < first → f n ≡ false) → ((n : ℕ) → first ≤ n → n < past → f n ≡ true)
     → count_below f (max next past) ≡ count + (past - max first next)
-total f first past next count wide old none full = elim (low_or next past) [
+total f first past next count wide old none full = elim (cases_lt next past) [
   | inr g ↦ let e : max next past ≡ next = omega arith in let z : count + (past - max first next) ≡ count = omega arith in rw (e, z) old
-  | inl l ↦ let e : max next past ≡ past = omega arith in elim (low_or next first) [
+  | inl l ↦ let e : max next past ≡ past = omega arith in elim (cases_lt next first) [
     | inr h ↦
         let z : past - max first next ≡ past - next = omega arith in
         let p : next + (past - next) ≡ past = omega arith in
@@ -134,7 +124,7 @@ counted_more spans i next count sorted inside span was =
       above = λ n h. touched-above spans i n (omega arith) ∙ was.above n (omega arith);
       full =
           λ n a b c. let e : i + 1 - 1 ≡ i =
-          omega arith in let reach : first_of spans i ≤ n = rw e at b in elim (low_or n (past_of spans i)) [
+          omega arith in let reach : first_of spans i ≤ n = rw e at b in elim (cases_lt n (past_of spans i)) [
             | inl l ↦ touched-inside spans i n reach l
             | inr g ↦ touched-still spans i n (filled spans i next count sorted inside was n reach (omega arith))
           ];

@@ -7,6 +7,7 @@ use Rattle.std.proofs.lemmas.Grind.{common_steps}
 use Rattle.std.proofs.lemmas.List.{append-nil, map-append}
 use Rattle.std.proofs.lemmas.List.Elements.{All-head, All-tail, All-map, All-weaker}
 use Rattle.std.specs.Option.{option_or}
+use Rattle.plain_lemmas.proofs.Options.{option_or-assoc}
 use Rattle.paged_memory.specs.Image.{Extent, part_byte, parts_byte}
 use Rattle.paged_memory.specs.Parts.{touched_below, AreApart, IsPlaced, ArePlaced}
 use Rattle.paged_memory.proofs.Count.{placed_by_ends}
@@ -28,15 +29,11 @@ use Rattle.elf_headers.proofs.Checks.{passed_last}
 IsApartFrom : Extent → Extent → Type 0
 IsApartFrom q p = (a : ℕ) → IsSome (part_byte p a) → part_byte q a ≡ None
 
-or_else_assoc : (a b c : Option ℕ) → option_or a (option_or b c) ≡ option_or (option_or a b) c
-or_else_assoc None b c = refl
-or_else_assoc (Some x) b c = refl
-
 pub parts_byte-append : (ps qs : List Extent) (a : ℕ) → parts_byte (ps ++ qs) a ≡ option_or (parts_byte ps a) (parts_byte qs a)
 unfolding parts_byte
 parts_byte-append [] qs a = refl
 parts_byte-append (p ∷ ps) qs a =
-    ap (option_or (part_byte p a)) (parts_byte-append ps qs a) ∙ or_else_assoc (part_byte p a) (parts_byte ps a) (parts_byte qs a)
+    ap (option_or (part_byte p a)) (parts_byte-append ps qs a) ∙ option_or-assoc (part_byte p a) (parts_byte ps a) (parts_byte qs a)
 
 byte_alone : (q : Extent) (a : ℕ) → part_byte q a ≡ None → parts_byte (q ∷ []) a ≡ None
 unfolding parts_byte

@@ -3,6 +3,7 @@ use Rattle.std.proofs.Common.{◌⊎◌, ◌≡◌, ℕ, ◌+◌, ◌-◌, ◌^�
 use Rattle.std.proofs.Common.{All}
 use Rattle.std.specs.Prelude.{◌&&◌, ◌||◌, nat_lt}
 use Rattle.std.proofs.lemmas.Bool.Decides.{nat_tests}
+use Rattle.std.proofs.lemmas.Bool.{or_parts}
 use Rattle.elf_headers.specs.declared.fault.LoadFault.TheVariants.{Truncated, NotStatic, BadTable, InShared}
 use Rattle.elf_headers.specs.declared.program_header.ProgramHeader.{ProgramHeader}
 use Rattle.elf_headers.specs.Header.{program_header_count}
@@ -15,10 +16,6 @@ use Rattle.elf_headers.proofs.Checks.{passed, passed_only}
 use Rattle.elf_headers.proofs.Below.{first_below-each_none, All-answers_below}
 
 -- ---- one load
-
-or_both : (a b : Bool) → (a || b) ≡ false → (a ≡ false) × (b ≡ false)
-or_both true b h = cc
-or_both false b h = (refl, h)
 
 load_some : (s : ProgramHeader) → is_load s ≡ true → nat_lt s.memory_size s.file_size ≡ false → 0 < s.memory_size
 load_some s load order = grind (arith, nat_tests)
@@ -38,7 +35,7 @@ sound_load size offset i s load h =
     passed (nat_lt (2 ^ 47) (s.address + s.memory_size) || nat_lt (2 ^ 64 - 1) (s.offset + s.file_size)) (BadTable offset) _ order.1 in
     let file = passed (nat_lt 0 s.file_size && nat_lt size (s.offset + s.file_size)) (Truncated size) _ ends.1 in
     let place = passed (is_in_shared s) (InShared i) _ file.1 in
-    let end = or_both (nat_lt (2 ^ 47) (s.address + s.memory_size)) _ ends.0 in
+    let end = or_parts (nat_lt (2 ^ 47) (s.address + s.memory_size)) _ ends.0 in
     record {
       some = load_some s load order.0;
       bytes = grind (arith, nat_tests, order.0);

@@ -7,6 +7,7 @@ use Rattle.elf_headers.specs.declared.fault.LoadFault.{LoadFault}
 use Rattle.elf_headers.specs.declared.fault.LoadFault.TheVariants.{TooLong, Truncated, NotElf, NotThisMachine}
 use Rattle.elf_headers.specs.declared.fault.LoadFault.TheVariants.{NotStatic, BadTable}
 use Rattle.sm_types.specs.Checks.{first_fault, fault_when}
+use Rattle.sm_types.specs.declared.limits.TheConstants.{FILE_LIMIT}
 
 -- the little-endian number of n bytes at an offset in the file
 unfoldable pub number_at : List ℕ → ℕ → ℕ → ℕ
@@ -44,7 +45,7 @@ is_elf file =
 -- more than 64 MiB, or less than a header
 unfoldable pub length_fault : List ℕ → Option LoadFault
 length_fault file = first_fault (
-    fault_when (nat_lt 67108864 (length file)) TooLong
+    fault_when (nat_lt FILE_LIMIT (length file)) TooLong
     ∷ fault_when (nat_lt (length file) 64) (Truncated (length file))
     ∷ [])
 

@@ -10,6 +10,7 @@ use Rattle.elf_headers.specs.declared.fault.LoadFault.TheVariants.{Overlap, TooM
 use Rattle.elf_headers.specs.declared.program_header.ProgramHeader.{ProgramHeader}
 use Rattle.elf_headers.specs.Below.{first_below, any_below, answers_below}
 use Rattle.sm_types.specs.Checks.{first_fault, fault_when}
+use Rattle.sm_types.specs.declared.limits.TheConstants.{PAGE_LIMIT}
 use Rattle.elf_headers.specs.Header.{header_entry, program_header_count, length_fault, kind_fault}
 use Rattle.elf_headers.specs.Header.{table_fault}
 use Rattle.elf_headers.specs.Segments.{segment_of, is_load, segments_fault}
@@ -60,7 +61,7 @@ abbrev pub page_sum : List ℕ → ℕ
 page_sum file = touched_below (extents_of file) (2 ^ 35) + 64
 
 unfoldable pub pages_fault : List ℕ → Option LoadFault
-pages_fault file = fault_when (nat_lt 4096 (page_sum file)) (TooManyPages (page_sum file))
+pages_fault file = fault_when (nat_lt PAGE_LIMIT (page_sum file)) (TooManyPages (page_sum file))
 
 -- the header has PF_X, and the address in memory
 abbrev pub has_executable : ProgramHeader → ℕ → Bool

@@ -2,6 +2,7 @@
 use Rattle.std.specs.Prelude.{◌≢◌, ℕ, ◌+◌, ◌-◌, ◌/◌, ◌<◌, ◌≤◌, ◌^◌, Bool, List, get_or, length, Option, Some}
 use Rattle.std.specs.Prelude.{None, cond, ◌&&◌, nat_le}
 use Rattle.std.specs.List.{list_any}
+use Rattle.sm_types.specs.declared.limits.TheConstants.{PAGE_SIZE}
 use Rattle.elf_headers.specs.declared.spans.Span.{Span}
 use Rattle.elf_headers.specs.Below.{answers_below, count_below}
 use Rattle.elf_headers.specs.Header.{program_header_count}
@@ -35,7 +36,7 @@ IsClearBelow spans least =
 
 -- the span has a byte in the page of that number
 abbrev pub touches_page : Span → ℕ → Bool
-touches_page s n = nat_le (s.address / 4096) n && nat_le n ((s.end - 1) / 4096)
+touches_page s n = nat_le (s.address / PAGE_SIZE) n && nat_le n ((s.end - 1) / PAGE_SIZE)
 
 -- how many of the pages below a number the spans touch
 abbrev pub pages_below : List Span → ℕ → ℕ

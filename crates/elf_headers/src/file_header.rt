@@ -9,9 +9,7 @@ use crate::elf::{
 };
 use crate::fault::LoadFault;
 use crate::little_endian::{u8_at, u16_at, u32_at, u64_at};
-
-/// The most bytes that a program file may have.
-const LARGEST_FILE: usize = 67_108_864;
+use sm_types::FILE_LIMIT;
 
 /// Checks the length of the file.
 #[tactic(auto, unfolding(crate::specs::Header::length_fault))]
@@ -19,7 +17,7 @@ pub fn check_length(file: &[u8]) -> Result<(), LoadFault>
     ensures tells { Tells result (length_fault file.now) }
     ensures long { OnOk result (64 ≤ length file.now) }
 {
-    if file.len() > LARGEST_FILE {
+    if file.len() > FILE_LIMIT as usize {
         return Err(LoadFault::TooLong);
     }
     if file.len() < E_HEADER_SIZE {

@@ -7,12 +7,10 @@ ghost use Rattle.elf_headers.specs.Spans.{pages_below, IsLow};
 
 use crate::fault::LoadFault;
 use crate::spans::Span;
+use sm_types::{PAGE_LIMIT, PAGE_SIZE};
 
-const PAGE_SIZE: u64 = 4096;
 /// The pages of the stack.
 const STACK_PAGES: u64 = 64;
-/// The most pages that a guest thread may have.
-const MOST_PAGES: u64 = 4096;
 
 /// How many pages the spans touch, which are in order of address.
 fn count_pages(spans: &[Span]) -> u64
@@ -24,8 +22,8 @@ fn count_pages(spans: &[Span]) -> u64
     let mut count = 0;
     let mut next = 0;
     for span in spans {
-        let first = span.address / PAGE_SIZE;
-        let past = (span.end - 1) / PAGE_SIZE + 1;
+        let first = span.address / u64::from(PAGE_SIZE);
+        let past = (span.end - 1) / u64::from(PAGE_SIZE) + 1;
         count += past.saturating_sub(first.max(next));
         next = next.max(past);
     }
@@ -37,11 +35,11 @@ fn count_pages(spans: &[Span]) -> u64
 pub fn check_pages(spans: &[Span]) -> Result<(), LoadFault>
     requires sorted { IsNonDecreasingBy (λ s. s.address) spans.now }
     requires low { All IsLow spans.now }
-    ensures { Tells result (fault_when (nat_lt 4096 (pages_below spans.now (2 ^ 35) + 64))
+    ensures { Tells result (fault_when (nat_lt PAGE_LIMIT (pages_below spans.now (2 ^ 35) + 64))
         (LoadFault.TooManyPages (pages_below spans.now (2 ^ 35) + 64))) }
 {
     let pages = count_pages(spans) + STACK_PAGES;
-    if pages > MOST_PAGES {
+    if pages > u64::from(PAGE_LIMIT) {
         return Err(LoadFault::TooManyPages(pages));
     }
     Ok(())

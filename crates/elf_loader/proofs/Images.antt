@@ -1,11 +1,13 @@
 -- A file without a fault is loaded as one program: some memory has the pages and bytes of any parts, and no other does.
-use Rattle.std.proofs.Common.{◌≡◌, ℕ, zero, suc, ◌+◌, ◌-◌, ◌*◌, ◌/◌, ◌<◌, ◌≤◌, ◌⊎◌, inl, inr, Bool, true, false, cond, List, [], ◌∷◌}
+use Rattle.std.proofs.Common.{◌≡◌, ℕ, zero, suc, ◌+◌, ◌-◌, ◌*◌, ◌/◌, ◌<◌, ◌≤◌, ◌⊎◌, inl, inr, false, cond, List, [], ◌∷◌}
 use Rattle.std.proofs.Common.{Option, Some, None, refl, sym, ◌∙◌, ap, arith}
-use Rattle.std.specs.Prelude.{◌&&◌, ◌==◌, nat_lt, nat_le}
+use Rattle.std.specs.Prelude.{◌&&◌, nat_lt, nat_le}
 use Rattle.std.specs.FinMap.{FinMap, get, insert, empty, get-insert, get-empty, same_map, nat_cmp-IsAntisymmetric}
 use Rattle.std.specs.Cmp.{nat_cmp_total}
-use Rattle.std.specs.Ordering.{nat_cmp, eq_by_cmp}
+use Rattle.std.specs.Ordering.{nat_cmp}
 use Rattle.std.proofs.lemmas.Bool.Decides.{nat_tests}
+use Rattle.std.proofs.lemmas.Bool.{cases_lt, ne_eqb}
+use Rattle.plain_lemmas.proofs.Tests.{and-false, eqb-self, eq_by_cmp-nat}
 use Rattle.paged_memory.specs.Memory.{AddressSpace}
 use Rattle.paged_memory.specs.Image.{Extent, Program, part_flags, image_flags, part_byte, parts_byte, image_byte, IsMemoryOf}
 use Rattle.elf_headers.specs.Header.{header_entry}
@@ -15,15 +17,6 @@ use Rattle.elf_loader.specs.Loading.{load_fault, Loads}
 
 -- ---- the map of a function below a bound
 
-eq_by_cmp-nat : (q k : ℕ) → eq_by_cmp nat_cmp q k ≡ (k == q)
-eq_by_cmp-nat q k = grind (arith, nat_tests)
-
-same_key : (k : ℕ) → (k == k) ≡ true
-same_key k = grind (arith, nat_tests)
-
-other_key : (k q : ℕ) → (k ≡ q → ⊥) → (k == q) ≡ false
-other_key k q n = grind (arith, nat_tests)
-
 with_value : FinMap nat_cmp ℕ → ℕ → Option ℕ → FinMap nat_cmp ℕ
 with_value m n None = m
 with_value m n (Some v) = insert m n v
@@ -31,13 +24,13 @@ with_value m n (Some v) = insert m n v
 get-with_value : (m : FinMap nat_cmp ℕ) (n : ℕ) (o : Option ℕ) → get m n ≡ None → get (with_value m n o) n ≡ o
 unfolding with_value
 get-with_value m n None e = e
-get-with_value m n (Some v) e = get-insert nat_cmp_total m n v n ∙ ap (λ b. cond b (Some v) (get m n)) (eq_by_cmp-nat n n ∙ same_key n)
+get-with_value m n (Some v) e = get-insert nat_cmp_total m n v n ∙ ap (λ b. cond b (Some v) (get m n)) (eq_by_cmp-nat n n ∙ eqb-self n)
 
 get-with_other : (m : FinMap nat_cmp ℕ) (n q : ℕ) (o : Option ℕ) → (n ≡ q → ⊥) → get (with_value m n o) q ≡ get m q
 unfolding with_value
 get-with_other m n q None e = refl
 get-with_other m n q (Some v) e =
-    get-insert nat_cmp_total m n v q ∙ ap (λ b. cond b (Some v) (get m q)) (eq_by_cmp-nat q n ∙ other_key n q e)
+    get-insert nat_cmp_total m n v q ∙ ap (λ b. cond b (Some v) (get m q)) (eq_by_cmp-nat q n ∙ ne_eqb n q e)
 
 map_below : (ℕ → Option ℕ) → ℕ → FinMap nat_cmp ℕ
 map_below f zero = empty
@@ -61,13 +54,10 @@ get-below f (suc n) q l =
       | inr before ↦ get-with_other (map_below f n) n q (f n) (λ e. omega arith) ∙ get-below f n q before
     ]
 
-low_or : (a b : ℕ) → (a < b) ⊎ (b ≤ a)
-low_or a b = grind arith
-
 -- of a function that has no values from a bound on
 get-map : (f : ℕ → Option ℕ) (n : ℕ) → ((q : ℕ) → n ≤ q → f q ≡ None) → (q : ℕ) → get (map_below f n) q ≡ f q
 get-map f n none q =
-    elim (low_or q n) [
+    elim (cases_lt q n) [
       | inl low ↦ get-below f n q low
       | inr high ↦ get-above f n q high ∙ sym (none q high)
     ]
@@ -82,10 +72,6 @@ bound-cons : (part : Extent) (parts : List Extent) → bound_of (part ∷ parts)
 unfolding bound_of
 bound-cons part parts = refl
 
-and_false : (b : Bool) → (b && false) ≡ false
-and_false true = refl
-and_false false = refl
-
 past_pages : (a s n : ℕ) → a + s + 1 ≤ n → nat_le n ((a + s - 1) / 4096) ≡ false
 past_pages a s n l = grind (arith, nat_tests)
 
@@ -93,10 +79,10 @@ past_bytes : (a s n : ℕ) → a + s + 1 ≤ n → nat_lt n (a + s) ≡ false
 past_bytes a s n l = grind (arith, nat_tests)
 
 no_flags : (part : Extent) (n : ℕ) → part.address + part.size + 1 ≤ n → part_flags part n ≡ None
-no_flags part n l = rw (past_pages part.address part.size n l, and_false (nat_lt 0 part.size && nat_le (part.address / 4096) n)) refl
+no_flags part n l = rw (past_pages part.address part.size n l, and-false (nat_lt 0 part.size && nat_le (part.address / 4096) n)) refl
 
 no_byte : (part : Extent) (a : ℕ) → part.address + part.size + 1 ≤ a → part_byte part a ≡ None
-no_byte part a l = rw (past_bytes part.address part.size a l, and_false (nat_le part.address a)) refl
+no_byte part a l = rw (past_bytes part.address part.size a l, and-false (nat_le part.address a)) refl
 
 flags-above : (parts : List Extent) (n : ℕ) → bound_of parts ≤ n → image_flags parts n ≡ None
 unfolding image_flags

@@ -1,6 +1,6 @@
 -- The fault of the section table, check by check.
 use Rattle.std.proofs.Common.{◌≡◌, ℕ, ◌^◌, true, false, List, [], Option, Some, None, refl, ◌∙◌}
-use Rattle.std.specs.Option.{option_or}
+use Rattle.plain_lemmas.proofs.Options.{option_or-none}
 use Rattle.elf_headers.specs.declared.fault.LoadFault.{LoadFault}
 use Rattle.elf_headers.specs.Below.{first_below, answers_below}
 use Rattle.elf_sections.specs.Sections.{section_count, section_table_fault, section_fault, sections_fault, has_sections}
@@ -19,15 +19,11 @@ pub table_refused : (file : List ℕ) (fault : LoadFault) → has_sections file 
 unfolding sections_fault
 table_refused file fault h t = rw (h, t) refl
 
-or_none : (o : Option LoadFault) → option_or o None ≡ o
-or_none None = refl
-or_none (Some f) = refl
-
 -- where the table passes, the fault is that of the first section that fails
 pub section_refused : (file : List ℕ) (o : Option LoadFault) → has_sections file ≡ true → section_table_fault file ≡ None
     → first_below (section_fault file) (section_count file) ≡ o → sections_fault file ≡ o
 unfolding sections_fault
-section_refused file o h t f = rw (h, t) (or_none (first_below (section_fault file) (section_count file)) ∙ f)
+section_refused file o h t f = rw (h, t) (option_or-none (first_below (section_fault file) (section_count file)) ∙ f)
 
 pub all_code : (file : List ℕ) → has_sections file ≡ true → answers_below (code_word file) (2 ^ 45) ≡ code_words file
 unfolding code_words

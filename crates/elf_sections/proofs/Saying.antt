@@ -6,6 +6,7 @@ use Rattle.std.proofs.lemmas.Bool.{cases_Bool}
 use Rattle.std.proofs.lemmas.List.{append-nil}
 use Rattle.std.proofs.lemmas.Bool.Decides.{nat_tests}
 use Rattle.std.specs.Option.{option_or}
+use Rattle.plain_lemmas.proofs.Options.{option_or-none, option_or-assoc}
 use Rattle.elf_sections.specs.declared.mapping_symbols.MappingSymbol.{MappingSymbol}
 use Rattle.elf_sections.specs.Sections.{section_of, is_symbol_table}
 use Rattle.elf_sections.specs.Repeats.{repeats_table}
@@ -16,17 +17,9 @@ use Rattle.elf_sections.proofs.Tables.{Repeats, repeats_parts, table_mapping_sym
 
 -- ---- the first of several
 
-or_else_assoc : (a b c : Option MappingSymbol) → option_or a (option_or b c) ≡ option_or (option_or a b) c
-or_else_assoc None b c = refl
-or_else_assoc (Some x) b c = refl
-
 or_else_twice : (a b : Option MappingSymbol) → option_or a (option_or a b) ≡ option_or a b
 or_else_twice None b = refl
 or_else_twice (Some x) b = refl
-
-or_else_none : (a : Option MappingSymbol) → option_or a None ≡ a
-or_else_none None = refl
-or_else_none (Some x) = refl
 
 or_else_some : (a c : Option MappingSymbol) (x : MappingSymbol) → option_or (option_or a (Some x)) c ≡ option_or a (Some x)
 or_else_some None c x = refl
@@ -37,9 +30,9 @@ or_else_some (Some y) c x = refl
 pub last_symbol-append : (s v : ℕ) (xs ys : List MappingSymbol)
     → last_symbol s v (xs ++ ys) ≡ option_or (last_symbol s v ys) (last_symbol s v xs)
 unfolding last_symbol
-last_symbol-append s v [] ys = sym (or_else_none (last_symbol s v ys))
+last_symbol-append s v [] ys = sym (option_or-none (last_symbol s v ys))
 last_symbol-append s v (x ∷ xs) ys =
-    rw (last_symbol-append s v xs ys) (sym (or_else_assoc (last_symbol s v ys) (last_symbol s v xs)
+    rw (last_symbol-append s v xs ys) (sym (option_or-assoc (last_symbol s v ys) (last_symbol s v xs)
     (cond (is_symbol_of s v x) (Some x) None)))
 
 pub same-append : (xs ys zs : List MappingSymbol) → SayTheSame xs ys → SayTheSame (xs ++ zs) (ys ++ zs)
@@ -103,7 +96,7 @@ governing-top s v b (m ∷ ms) e =
           rw (test, t) (governing-top s v m ms value ∙ sym (or_else_some (last_symbol s v ms) (Some b) m))
       | inr f ↦
           let test : ((m.section == s) && nat_le m.value v && nat_le b.value m.value) ≡ false = grind (arith, nat_tests) in
-          rw (test, f) (governing-top s v b ms e ∙ ap (λ o. option_or o (Some b)) (sym (or_else_none (last_symbol s v ms))))
+          rw (test, f) (governing-top s v b ms e ∙ ap (λ o. option_or o (Some b)) (sym (option_or-none (last_symbol s v ms))))
     ]
 
 governing-zero : (s : ℕ) (ms : List MappingSymbol) → governing s 0 None ms ≡ last_symbol s 0 ms
@@ -117,7 +110,7 @@ governing-zero s (m ∷ ms) =
           rw (test, t) (governing-top s 0 m ms value)
       | inr f ↦
           let test : ((m.section == s) && nat_le m.value 0) ≡ false = grind (arith, nat_tests) in
-          rw (test, f) (governing-zero s ms ∙ sym (or_else_none (last_symbol s 0 ms)))
+          rw (test, f) (governing-zero s ms ∙ sym (option_or-none (last_symbol s 0 ms)))
     ]
 
 -- a mapping symbol of the next address up governs it at once
@@ -168,7 +161,7 @@ governing-suc s a best (m ∷ ms) h =
           (governing-top s (suc a) m ms value ∙ sym (or_else_some (last_symbol s (suc a) ms) (governing s a best ms) m))
       | inr f ↦
           rw (later-same s a best m f, f) (governing-suc s a (later s a best m) ms (later-below s a best m h)
-          ∙ ap (λ o. option_or o (governing s a (later s a best m) ms)) (sym (or_else_none (last_symbol s (suc a) ms))))
+          ∙ ap (λ o. option_or o (governing s a (later s a best m) ms)) (sym (option_or-none (last_symbol s (suc a) ms))))
     ]
 
 governing-same : (xs ys : List MappingSymbol) (s a : ℕ) → ((v : ℕ) → last_symbol s v xs ≡ last_symbol s v ys)

@@ -10,6 +10,7 @@ use Rattle.std.proofs.lemmas.List.Elements.{filter_agree}
 use Rattle.std.proofs.lemmas.Bool.{cases_Bool}
 use Rattle.std.proofs.lemmas.Bool.Decides.{nat_tests}
 use Rattle.std.specs.Option.{option_or}
+use Rattle.plain_lemmas.proofs.Options.{option_or-none}
 use Rattle.sm_types.specs.declared.object.Content.TheVariants.{Code}
 use Rattle.elf_sections.specs.declared.mapping_symbols.MappingSymbol.{MappingSymbol}
 use Rattle.elf_sections.specs.SymbolOrder.{is_symbol_of, last_symbol, SayTheSame, AreSymbolsInOrder}
@@ -48,17 +49,13 @@ abbrev last_of : List MappingSymbol → Option MappingSymbol
 last_of [] = None
 last_of (m ∷ symbols) = option_or (last_of symbols) (Some m)
 
-or_none : (o : Option MappingSymbol) → option_or o None ≡ o
-or_none None = refl
-or_none (Some m) = refl
-
 last_symbol-filter : (s v : ℕ) (symbols : List MappingSymbol) → last_symbol s v symbols ≡ last_of (filter (is_symbol_of s v) symbols)
 unfolding last_symbol
 last_symbol-filter s v [] = refl
 last_symbol-filter s v (m ∷ symbols) =
     elim (cases_Bool (is_symbol_of s v m)) [
       | inl t ↦ rw t (ap (λ o. option_or o (Some m)) (last_symbol-filter s v symbols))
-      | inr f ↦ rw f (or_none (last_symbol s v symbols) ∙ last_symbol-filter s v symbols)
+      | inr f ↦ rw f (option_or-none (last_symbol s v symbols) ∙ last_symbol-filter s v symbols)
     ]
 
 -- a stable sort keeps the last mapping symbol of each section and value

@@ -8,6 +8,8 @@ use Rattle.std.proofs.lemmas.Bool.Decides.{nat_tests}
 use Rattle.std.proofs.lemmas.List.{get_or-take, get_or-drop, length-take, length-drop, take-append-drop, get_or_default}
 use Rattle.std.proofs.lemmas.List.Folds.{list_any-append}
 use Rattle.std.specs.Option.{option_or}
+use Rattle.plain_lemmas.proofs.Options.{option_or-none}
+use Rattle.plain_lemmas.proofs.Tests.{or-false}
 use Rattle.sm_types.specs.declared.object.Content.TheVariants.{Code}
 use Rattle.sm_types.specs.Objects.{is_code}
 use Rattle.elf_sections.specs.declared.mapping_symbols.MappingSymbol.{MappingSymbol}
@@ -24,10 +26,6 @@ use Rattle.elf_sections.proofs.Saying.{last_symbol-append}
 abbrev pub no_symbol : MappingSymbol
 no_symbol = record { section = 0; value = 0; content = Code }
 
-or_none : (o : Option MappingSymbol) → option_or o None ≡ o
-or_none None = refl
-or_none (Some m) = refl
-
 -- no mapping symbol of the list is of the section
 last_symbol-none : (s v : ℕ) (symbols : List MappingSymbol)
     → ((k : ℕ) (d : MappingSymbol) → k < length symbols → (get_or symbols k d).section ≡ s → ⊥)
@@ -36,7 +34,7 @@ unfolding last_symbol
 last_symbol-none s v [] h = refl
 last_symbol-none s v (m ∷ symbols) h =
     let test : is_symbol_of s v m ≡ false = and_left (m.section == s) (m.value == v) (ne_eqb m.section s (h 0 m (omega arith))) in
-    rw test (or_none (last_symbol s v symbols) ∙ last_symbol-none s v symbols (λ k d l. h (suc k) d (omega arith)))
+    rw test (option_or-none (last_symbol s v symbols) ∙ last_symbol-none s v symbols (λ k d l. h (suc k) d (omega arith)))
 
 -- mapping symbols that stand before and behind, and are of other sections, say nothing of the section
 pub part_same : (symbols rest : List MappingSymbol) (i from count v : ℕ) → rest ≡ drop from symbols
@@ -61,7 +59,7 @@ part_same symbols rest i from count v is low high =
     ∙ ap (λ o. option_or o (last_symbol i v (take count rest))) after in
     let whole : last_symbol i v symbols ≡ last_symbol i v (drop from symbols) =
     ap (last_symbol i v) (sym (take-append-drop from symbols)) ∙ last_symbol-append i v (take from symbols) (drop from symbols)
-    ∙ ap (option_or (last_symbol i v (drop from symbols))) before ∙ or_none (last_symbol i v (drop from symbols)) in
+    ∙ ap (option_or (last_symbol i v (drop from symbols))) before ∙ option_or-none (last_symbol i v (drop from symbols)) in
     sym (whole ∙ ap (last_symbol i v) (sym is) ∙ part)
 
 -- ---- ranges
@@ -70,15 +68,11 @@ pub in_ranges-none : (n : ℕ) → is_in_ranges [] n ≡ false
 unfolding is_in_ranges
 in_ranges-none n = refl
 
-or_false : (b : Bool) → (b || false) ≡ b
-or_false true = refl
-or_false false = refl
-
 pub in_ranges-push : (ranges : List WordRange) (s : WordRange) (n : ℕ)
     → is_in_ranges (ranges ++ s ∷ []) n ≡ (is_in_ranges ranges n || has_number s n)
 unfolding is_in_ranges
 in_ranges-push ranges s n =
-    list_any-append (λ t. has_number t n) ranges (s ∷ []) ∙ ap (λ b. is_in_ranges ranges n || b) (or_false (has_number s n))
+    list_any-append (λ t. has_number t n) ranges (s ∷ []) ∙ ap (λ b. is_in_ranges ranges n || b) (or-false (has_number s n))
 
 -- what a push of the words that are code adds
 pub in_ranges-code : (old new : List WordRange) (code : Bool) (start end n : ℕ) → code ≡ true

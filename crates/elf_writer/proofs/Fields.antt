@@ -1,21 +1,19 @@
 -- What is read from fields that were written.
-use Rattle.std.proofs.Common.{◌≡◌, ℕ, zero, suc, ◌+◌, ◌/◌, ◌%◌, ◌^◌, ◌<◌, ◌≤◌, Bool, true, false, List, [], ◌∷◌, ◌++◌, length, get_or, drop}
+use Rattle.std.proofs.Common.{◌≡◌, ℕ, zero, suc, ◌+◌, ◌/◌, ◌%◌, ◌^◌, ◌<◌, ◌≤◌, true, List, [], ◌∷◌, ◌++◌, length, get_or, drop}
 use Rattle.std.proofs.Common.{refl, ap, sym, ◌∙◌, arith, append_assoc}
 use Rattle.std.proofs.lemmas.Bool.Decides.{nat_tests}
-use Rattle.std.specs.Prelude.{◌&&◌, nat_le}
+use Rattle.std.proofs.lemmas.Bool.{and_parts}
+use Rattle.std.specs.Prelude.{nat_le}
+use Rattle.plain_lemmas.proofs.Lists.{drop_past}
 use Rattle.byteorder.specs.Endian.{little_number, little_bytes}
 use Rattle.byteorder.specs.Numbers.{little_from-bytes, length-bytes_low_first}
 use Rattle.elf_headers.specs.Header.{number_at}
 use Rattle.elf_writer.specs.Layout.{are_narrow, fields_bytes}
 
-pub drop-past : (xs ys : List ℕ) (k : ℕ) → drop (length xs + k) (xs ++ ys) ≡ drop k ys
-drop-past [] ys k = let e : 0 + k ≡ k = omega arith in rw e refl
-drop-past (x ∷ xs) ys k = let e : suc (length xs) + k ≡ suc (length xs + k) = omega arith in rw e (drop-past xs ys k)
-
 -- bytes in front are skipped
 pub number_at-past : (xs ys : List ℕ) (k n : ℕ) → number_at (xs ++ ys) (length xs + k) n ≡ number_at ys k n
 unfolding number_at
-number_at-past xs ys k n = ap (little_number n) (drop-past xs ys k)
+number_at-past xs ys k n = ap (little_number n) (drop_past xs ys k)
 
 -- where field number k begins, its width and its value
 abbrev pub offset : List (ℕ × ℕ) → ℕ → ℕ
@@ -45,20 +43,15 @@ read_field (f ∷ fs) zero rest =
     rw append_assoc (little_from-bytes f.0 0 f.1 (fields_bytes fs ++ rest) ∙ ap (λ x. x % 256 ^ f.0) (div_one f.1))
 read_field (f ∷ fs) (suc k) rest =
     let all : drop (length (little_bytes f.0 f.1) + offset fs k) (little_bytes f.0 f.1 ++ (fields_bytes fs ++ rest))
-    ≡ drop (offset fs k) (fields_bytes fs ++ rest) = drop-past (little_bytes f.0 f.1) (fields_bytes fs ++ rest) (offset fs k) in
+    ≡ drop (offset fs k) (fields_bytes fs ++ rest) = drop_past (little_bytes f.0 f.1) (fields_bytes fs ++ rest) (offset fs k) in
     let here : drop (f.0 + offset fs k) (little_bytes f.0 f.1 ++ fields_bytes fs ++ rest) ≡ drop (offset fs k) (fields_bytes fs ++ rest) =
     rw (append_assoc) (rw (length-bytes_low_first 0 f.0 f.1) at all) in
     ap (little_number (width fs k)) here ∙ read_field fs k rest
 
-and_split : (a b : Bool) → (a && b) ≡ true → (a ≡ true) × (b ≡ true)
-and_split true true h = (refl, refl)
-and_split true false h = cc
-and_split false b h = cc
-
 pub narrow_at : (fs : List (ℕ × ℕ)) (i : ℕ) (d : ℕ × ℕ) → are_narrow fs ≡ true → i < length fs → (get_or fs i d).0 ≤ 8
 narrow_at [] i d h l = absurd (omega arith)
-narrow_at (f ∷ fs) zero d h l = let e : nat_le f.0 8 ≡ true = (and_split (nat_le f.0 8) (are_narrow fs) h).0 in grind (arith, nat_tests)
-narrow_at (f ∷ fs) (suc i) d h l = narrow_at fs i d (and_split (nat_le f.0 8) (are_narrow fs) h).1 (omega arith)
+narrow_at (f ∷ fs) zero d h l = let e : nat_le f.0 8 ≡ true = (and_parts (nat_le f.0 8) (are_narrow fs) h).0 in grind (arith, nat_tests)
+narrow_at (f ∷ fs) (suc i) d h l = narrow_at fs i d (and_parts (nat_le f.0 8) (are_narrow fs) h).1 (omega arith)
 
 -- fields one after another
 pub fields_bytes-append : (fs gs : List (ℕ × ℕ)) → fields_bytes (fs ++ gs) ≡ fields_bytes fs ++ fields_bytes gs

@@ -3,7 +3,9 @@ use Rattle.std.proofs.Common.{◌≡◌, ℕ, zero, suc, ◌/◌, ◌<◌, ◌�
 use Rattle.std.proofs.Common.{Option, Some, None, refl, ap, sym, ◌∙◌, arith, add-one, length-append}
 use Rattle.std.specs.Prelude.{◌==◌, ◌&&◌, nat_le}
 use Rattle.std.proofs.lemmas.Bool.Decides.{nat_tests}
+use Rattle.std.proofs.lemmas.Bool.{ne_eqb, eq-eqb, lt-leb, le-leb}
 use Rattle.std.specs.Option.{option_or as or_else}
+use Rattle.plain_lemmas.proofs.Numbers.{cases_le}
 use Rattle.sm_types.specs.declared.object.Content.{Content}
 use Rattle.sm_types.specs.declared.object.Object.{Object}
 use Rattle.sm_types.specs.Objects.{Mapping, mappings_of, later_mapping, governing_mapping, mapping_says, text_content, is_same}
@@ -26,39 +28,33 @@ IsUnder a (Some m) = m.address ≤ a
 abbrev Stands : ℕ → ℕ → Bool → ℕ → Type 0
 Stands a b here x = ((x ≤ a) × (here ≡ false)) ⊎ ((a < x) × (x ≤ b) × (here ≡ true)) ⊎ ((b < x) × (here ≡ false))
 
-at_most : (x a : ℕ) → x ≤ a → nat_le x a ≡ true
-at_most x a h = grind (arith, nat_tests)
-
-above : (x a : ℕ) → a < x → nat_le x a ≡ false
-above x a h = grind (arith, nat_tests)
-
 step_low : (a b : ℕ) (s g : Option Mapping) (m : Mapping) → a ≤ b → IsPast a s → m.address ≤ a
     → later_mapping b (or_else s g) m ≡ or_else s (later_mapping a g m)
 step_low a b None None m l p h =
     let t : nat_le m.address a ≡ true =
-    at_most m.address a h in let u : nat_le m.address b ≡ true = at_most m.address b (omega arith) in rw (t, u) refl
+    le-leb m.address a h in let u : nat_le m.address b ≡ true = le-leb m.address b (omega arith) in rw (t, u) refl
 step_low a b None (Some y) m l p h =
     let t : nat_le m.address a ≡ true =
-    at_most m.address a h in let u : nat_le m.address b ≡ true = at_most m.address b (omega arith) in rw (t, u) refl
+    le-leb m.address a h in let u : nat_le m.address b ≡ true = le-leb m.address b (omega arith) in rw (t, u) refl
 step_low a b (Some x) g m l p h =
     let t : nat_le x.address m.address ≡ false =
-    above x.address m.address (omega arith) in let u : nat_le m.address b ≡ true = at_most m.address b (omega arith) in rw (t, u) refl
+    lt-leb x.address m.address (omega arith) in let u : nat_le m.address b ≡ true = le-leb m.address b (omega arith) in rw (t, u) refl
 
 step_here : (a b : ℕ) (s g : Option Mapping) (m : Mapping) → IsUnder a g → a < m.address → m.address ≤ b
     → later_mapping b (or_else s g) m ≡ Some (newer s m)
-step_here a b None None m p h k = let u : nat_le m.address b ≡ true = at_most m.address b k in rw u refl
+step_here a b None None m p h k = let u : nat_le m.address b ≡ true = le-leb m.address b k in rw u refl
 step_here a b None (Some y) m p h k =
     let t : nat_le y.address m.address ≡ true =
-    at_most y.address m.address (omega arith) in let u : nat_le m.address b ≡ true = at_most m.address b k in rw (t, u) refl
-step_here a b (Some x) g m p h k = let u : nat_le m.address b ≡ true = at_most m.address b k in rw u (pick (nat_le x.address m.address) m x)
+    le-leb y.address m.address (omega arith) in let u : nat_le m.address b ≡ true = le-leb m.address b k in rw (t, u) refl
+step_here a b (Some x) g m p h k = let u : nat_le m.address b ≡ true = le-leb m.address b k in rw u (pick (nat_le x.address m.address) m x)
   where
     pick : (t : Bool) (m x : Mapping) → cond t (Some m) (Some x) ≡ Some (cond t m x)
     pick true m x = refl
     pick false m x = refl
 
 step_far : (b : ℕ) (o : Option Mapping) (m : Mapping) → b < m.address → later_mapping b o m ≡ o
-step_far b None m h = let u : nat_le m.address b ≡ false = above m.address b h in rw u refl
-step_far b (Some x) m h = let u : nat_le m.address b ≡ false = above m.address b h in rw u refl
+step_far b None m h = let u : nat_le m.address b ≡ false = lt-leb m.address b h in rw u refl
+step_far b (Some x) m h = let u : nat_le m.address b ≡ false = lt-leb m.address b h in rw u refl
 
 step : (a b : ℕ) (here : Bool) (s g : Option Mapping) (m : Mapping) → a ≤ b → IsPast a s → IsUnder a g → Stands a b here m.address
     → later_mapping b (or_else s g) m ≡ or_else (cond here (Some (newer s m)) s) (later_mapping a g m)
@@ -91,22 +87,12 @@ under_more a (Some x) m u = both_under a (nat_le m.address a) (nat_le x.address 
     both_under a true false x m e u = u
     both_under a false k x m e u = u
 
--- the words' addresses, and the first word for an address
-low_or_past : (x a : ℕ) → (x ≤ a) ⊎ (a < x)
-low_or_past x a = grind arith
-
-eq_of : (x y : ℕ) → x ≡ y → (x == y) ≡ true
-eq_of x y h = grind (arith, nat_tests)
-
-not_eq : (x y : ℕ) → (x ≡ y → ⊥) → (x == y) ≡ false
-not_eq x y h = grind (arith, nat_tests)
-
 stands : (n x : ℕ) → Stands (word_address n) (word_address (suc n)) (word_from x == suc n) x
-stands n x = elim (low_or_past x (word_address n)) [
-  | inl low ↦ inl (low, not_eq (word_from x) (suc n) (λ e. omega arith))
-  | inr past ↦ elim (low_or_past x (word_address (suc n))) [
-    | inl upto ↦ inr (inl (past, upto, eq_of (word_from x) (suc n) (omega arith)))
-    | inr far ↦ inr (inr (far, not_eq (word_from x) (suc n) (λ e. omega arith)))
+stands n x = elim (cases_le x (word_address n)) [
+  | inl low ↦ inl (low, ne_eqb (word_from x) (suc n) (λ e. omega arith))
+  | inr past ↦ elim (cases_le x (word_address (suc n))) [
+    | inl upto ↦ inr (inl (past, upto, eq-eqb (word_from x) (suc n) (omega arith)))
+    | inr far ↦ inr (inr (far, ne_eqb (word_from x) (suc n) (λ e. omega arith)))
   ]
 ]
 
@@ -121,9 +107,9 @@ governing_more n s g (m ∷ ms) p u =
     (under_more (word_address n) g m u)
 
 same_test : (x : ℕ) → nat_le x (word_address 0) ≡ (word_from x == 0)
-same_test x = elim (low_or_past x (word_address 0)) [
-  | inl low ↦ at_most x (word_address 0) low ∙ sym (eq_of (word_from x) 0 (omega arith))
-  | inr past ↦ above x (word_address 0) past ∙ sym (not_eq (word_from x) 0 (λ e. omega arith))
+same_test x = elim (cases_le x (word_address 0)) [
+  | inl low ↦ le-leb x (word_address 0) low ∙ sym (eq-eqb (word_from x) 0 (omega arith))
+  | inr past ↦ lt-leb x (word_address 0) past ∙ sym (ne_eqb (word_from x) 0 (λ e. omega arith))
 ]
 
 step_zero : (t : Bool) (b : ℕ) (g : Option Mapping) (m : Mapping) → nat_le m.address b ≡ t

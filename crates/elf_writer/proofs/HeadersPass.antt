@@ -3,6 +3,7 @@ use Rattle.std.proofs.Common.{◌≡◌, ℕ, ◌+◌, ◌-◌, ◌*◌, ◌%◌
 use Rattle.std.proofs.Common.{None, refl, ap, sym, subst, ◌∙◌, arith}
 use Rattle.std.specs.Prelude.{◌==◌, ◌&&◌, cond, nat_lt, nat_le}
 use Rattle.std.proofs.lemmas.Bool.Decides.{nat_tests}
+use Rattle.std.proofs.lemmas.Bool.{and_right}
 use Rattle.sm_types.specs.Objects.{text_address, data_address}
 use Rattle.std.specs.Option.{option_or as or_else}
 use Rattle.paged_memory.specs.Parts.{touched_below}
@@ -83,10 +84,6 @@ table_passes file l r s = table_by file l (load_count l) r s (program_header_cou
 
 -- ---- each program header
 
-and_false : (a b : Bool) → b ≡ false → (a && b) ≡ false
-and_false true b h = h
-and_false false b h = refl
-
 load_passes : (size at i : ℕ) (s : ProgramHeader) → s.memory_size ≡ s.file_size → s.offset + s.file_size ≤ size → size ≤ 67108864
     → s.address + s.memory_size ≤ 2 ^ 32 → load_fault_of size at i s ≡ None
 unfolding load_fault_of
@@ -97,9 +94,9 @@ load_passes size at i s same fits low offset =
     let d : nat_lt size (s.offset + s.file_size) ≡ false = grind (arith, nat_tests) in
     let e : nat_lt 0x7DFFFFFC0000 (s.address + s.memory_size) ≡ false = grind (arith, nat_tests) in
     let inside : (nat_lt 0 s.file_size && nat_lt size (s.offset + s.file_size)) ≡ false =
-    and_false (nat_lt 0 s.file_size) (nat_lt size (s.offset + s.file_size)) d in
+    and_right (nat_lt 0 s.file_size) (nat_lt size (s.offset + s.file_size)) d in
     let private : is_in_shared s ≡ false =
-    and_false (nat_lt s.address 0x7F0000001000) (nat_lt 0x7DFFFFFC0000 (s.address + s.memory_size)) e in
+    and_right (nat_lt s.address 0x7F0000001000) (nat_lt 0x7DFFFFFC0000 (s.address + s.memory_size)) e in
     rw (a, b, c, inside, private) refl
 
 only_none : (b : Bool) (check : Option LoadFault) → check ≡ None → or_else (fault_only b check) None ≡ None
@@ -147,7 +144,7 @@ not_shared : (l : Layout) → share (text_segment l) (full_data_segment l) ≡ f
 unfolding text_segment
 not_shared l =
     let a : nat_lt (data_address l.text_size) (text_address + l.text_size) ≡ false = grind (arith, nat_tests, data_past l) in
-    and_false (nat_lt text_address (data_address l.text_size + l.data_size))
+    and_right (nat_lt text_address (data_address l.text_size + l.data_size))
     (nat_lt (data_address l.text_size) (text_address + l.text_size)) a
 
 overlap_none : (file : List ℕ) (i j : ℕ) → (nat_lt i j ≡ false) ⊎ (share (segment_of file i) (segment_of file j) ≡ false)
@@ -155,7 +152,7 @@ overlap_none : (file : List ℕ) (i j : ℕ) → (nat_lt i j ≡ false) ⊎ (sha
 unfolding overlap_at
 overlap_none file i j (inl e) = rw e refl
 overlap_none file i j (inr e) =
-    rw (and_false (nat_lt i j && is_load (segment_of file i) && is_load (segment_of file j)) (share (segment_of file i) (segment_of file j))
+    rw (and_right (nat_lt i j && is_load (segment_of file i) && is_load (segment_of file j)) (share (segment_of file i) (segment_of file j))
     e) refl
 
 overlap_pair : (file : List ℕ) (l : Layout) (i j : ℕ) → IsSmall l → Reads file l → (i ≡ 0) ⊎ ((i ≡ 1) × ((l.data_size == 0) ≡ false))

@@ -3,6 +3,7 @@ use Rattle.std.proofs.Common.{◌≡◌, ℕ, ◌<◌, ◌⊎◌, inl, Bool, tru
 use Rattle.std.proofs.Common.{arith}
 use Rattle.std.specs.Prelude.{◌==◌, cond}
 use Rattle.std.proofs.lemmas.Bool.Decides.{nat_tests}
+use Rattle.plain_lemmas.proofs.Tests.{eqb-zero_of_pos}
 use Rattle.sm_types.specs.Objects.{text_address, data_address}
 use Rattle.paged_memory.specs.Image.{Extent}
 use Rattle.elf_headers.specs.declared.program_header.ProgramHeader.{ProgramHeader}
@@ -28,18 +29,12 @@ images text bytes = text_image text ∷ cond (length bytes == 0) [] (data_image 
 
 -- ---- the program headers are loads
 
-pub positive : (x : ℕ) → 0 < x → (x == 0) ≡ false
-positive x h = grind (arith, nat_tests)
-
 pub not_zero : (x : ℕ) → (x == 0) ≡ false → 0 < x
 not_zero x h = grind (arith, nat_tests)
 
-pub is_zero : (x : ℕ) → (x == 0) ≡ true → x ≡ 0
-is_zero x h = grind (arith, nat_tests)
-
 pub text-is_load : (l : Layout) → 0 < l.text_size → is_load (text_segment l) ≡ true
 unfolding text_segment
-text-is_load l h = rw (positive l.text_size h) refl
+text-is_load l h = rw (eqb-zero_of_pos l.text_size h) refl
 
 pub data-is_load : (l : Layout) → (l.data_size == 0) ≡ false → is_load (full_data_segment l) ≡ true
 data-is_load l h = rw h refl

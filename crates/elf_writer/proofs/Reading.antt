@@ -2,6 +2,7 @@
 use Rattle.sm_types.specs.Objects.{text_address}
 use Rattle.std.proofs.Common.{◌≡◌, ℕ, zero, suc, ◌+◌, ◌-◌, ◌*◌, ◌%◌, ◌^◌, ◌<◌, ◌≤◌, List, [], ◌∷◌, ◌++◌, length, take, drop, replicate, All}
 use Rattle.std.proofs.Common.{refl, ap, sym, ◌∙◌, arith, append_assoc, length-append}
+use Rattle.std.proofs.lemmas.List.{take_at, drop_at}
 use Rattle.byteorder.specs.Endian.{little_bytes}
 use Rattle.byteorder.specs.Numbers.{length-bytes_low_first}
 use Rattle.elf_headers.specs.Header.{number_at}
@@ -11,7 +12,7 @@ use Rattle.elf_writer.specs.declared.file.TheConstants.{STRINGS, SECTION_NAMES}
 use Rattle.elf_writer.specs.Layout.{fields_bytes, all_fields, header_fields, segments_fields, segment_fields, part_sections_fields}
 use Rattle.elf_writer.specs.Layout.{table_sections_fields, section_fields, data_offset, symbols_offset, IsSmall}
 use Rattle.elf_writer.specs.File.{symbol_fields, mapping_bytes, symbols_bytes, front_bytes, text_part, data_part, file_bytes}
-use Rattle.elf_writer.proofs.Fields.{drop-past, number_at-past, offset, width, value, read_field}
+use Rattle.elf_writer.proofs.Fields.{number_at-past, offset, width, value, read_field}
 
 -- the file is the one of these parts, of which the text has a byte and the entry is the address of a word of it
 pub record IsFile (file : List ℕ) (l : Layout) (text data_bytes : List ℕ) (mappings : List TextMapping) : Type 0 where
@@ -103,16 +104,6 @@ length-data_part l bytes e =
 
 -- ---- parts
 
-drop-all : (xs ys : List ℕ) (n : ℕ) → length xs ≡ n → drop n (xs ++ ys) ≡ ys
-drop-all xs ys n e = let k : n ≡ length xs + 0 = omega arith in rw k (drop-past xs ys 0)
-
-take-front : (xs ys : List ℕ) (n : ℕ) → length xs ≡ n → take n (xs ++ ys) ≡ xs
-take-front xs ys n e = rw (← e) (taken xs ys)
-  where
-    taken : (xs ys : List ℕ) → take (length xs) (xs ++ ys) ≡ xs
-    taken [] ys = refl
-    taken (x ∷ xs) ys = ap (λ zs. x ∷ zs) (taken xs ys)
-
 pub drop-more : (k : ℕ) (xs : List ℕ) (j : ℕ) → drop (j + k) xs ≡ drop k (drop j xs)
 drop-more k xs zero = let e : 0 + k ≡ k = omega arith in rw e refl
 drop-more k [] (suc j) = nothing (suc j + k) ∙ sym (nothing k)
@@ -148,7 +139,7 @@ past-front : (file : List ℕ) (l : Layout) (text bytes : List ℕ) (mappings : 
     → drop 4096 file ≡ text_part l text ++ (data_part l bytes ++ symbols_bytes mappings)
 unfolding file_bytes
 past-front file l text bytes mappings is =
-    ap (drop 4096) is.whole ∙ drop-all (front_bytes l) (text_part l text ++ (data_part l bytes ++ symbols_bytes mappings)) 4096
+    ap (drop 4096) is.whole ∙ drop_at (front_bytes l) (text_part l text ++ (data_part l bytes ++ symbols_bytes mappings)) 4096
     (length-front l)
 
 past-text : (file : List ℕ) (l : Layout) (text bytes : List ℕ) (mappings : List TextMapping) → IsFile file l text bytes mappings
@@ -156,14 +147,14 @@ past-text : (file : List ℕ) (l : Layout) (text bytes : List ℕ) (mappings : L
 past-text file l text bytes mappings is =
     ap (λ n. drop n file) (sym (length-text_part l text is.text_size)) ∙ drop-more (length (text_part l text)) file 4096
     ∙ ap (drop (length (text_part l text))) (past-front file l text bytes mappings is)
-    ∙ drop-all (text_part l text) (data_part l bytes ++ symbols_bytes mappings) (length (text_part l text)) refl
+    ∙ drop_at (text_part l text) (data_part l bytes ++ symbols_bytes mappings) (length (text_part l text)) refl
 
 pub past-data : (file : List ℕ) (l : Layout) (text bytes : List ℕ) (mappings : List TextMapping) → IsFile file l text bytes mappings
     → drop (symbols_offset l) file ≡ symbols_bytes mappings
 past-data file l text bytes mappings is =
     ap (λ n. drop n file) (sym (length-data_part l bytes is.data_size)) ∙ drop-more (length (data_part l bytes)) file (data_offset l)
     ∙ ap (drop (length (data_part l bytes))) (past-text file l text bytes mappings is)
-    ∙ drop-all (data_part l bytes) (symbols_bytes mappings) (length (data_part l bytes)) refl
+    ∙ drop_at (data_part l bytes) (symbols_bytes mappings) (length (data_part l bytes)) refl
 
 pub text-bytes : (file : List ℕ) (l : Layout) (text bytes : List ℕ) (mappings : List TextMapping) → IsFile file l text bytes mappings
     → take l.text_size (drop 4096 file) ≡ text
@@ -171,7 +162,7 @@ unfolding text_part
 text-bytes file l text bytes mappings is =
     ap (take l.text_size) (past-front file l text bytes mappings is
     ∙ append_assoc text (replicate (data_offset l - (4096 + l.text_size)) 0) (data_part l bytes ++ symbols_bytes mappings))
-    ∙ take-front text (replicate (data_offset l - (4096 + l.text_size)) 0 ++ (data_part l bytes ++ symbols_bytes mappings)) l.text_size
+    ∙ take_at text (replicate (data_offset l - (4096 + l.text_size)) 0 ++ (data_part l bytes ++ symbols_bytes mappings)) l.text_size
     is.text_size
 
 pub data-bytes : (file : List ℕ) (l : Layout) (text bytes : List ℕ) (mappings : List TextMapping) → IsFile file l text bytes mappings
@@ -180,7 +171,7 @@ unfolding data_part
 data-bytes file l text bytes mappings is =
     ap (take l.data_size) (past-text file l text bytes mappings is
     ∙ append_assoc bytes (replicate (symbols_offset l - (data_offset l + l.data_size)) 0) (symbols_bytes mappings))
-    ∙ take-front bytes (replicate (symbols_offset l - (data_offset l + l.data_size)) 0 ++ symbols_bytes mappings) l.data_size is.data_size
+    ∙ take_at bytes (replicate (symbols_offset l - (data_offset l + l.data_size)) 0 ++ symbols_bytes mappings) l.data_size is.data_size
 
 -- ---- header fields and names
 

@@ -1,9 +1,8 @@
 -- The mapping symbols that are written say of each word what was said of it.
 use Rattle.std.proofs.Common.{◌≡◌, ℕ, zero, suc, ◌+◌, ◌-◌, ◌/◌, ◌^◌, ◌<◌, ◌≤◌, ◌⊎◌, inl, inr, Bool, true, false, cond, List, [], ◌∷◌, ◌++◌}
 use Rattle.std.proofs.Common.{length, map, All, IfSome, Option, Some, None, refl, ap, sym, ◌∙◌, arith}
-use Rattle.std.specs.Prelude.{nat_le}
-use Rattle.std.proofs.lemmas.Bool.Decides.{nat_tests}
 use Rattle.std.proofs.lemmas.List.{map-append}
+use Rattle.std.proofs.lemmas.Bool.{lt-leb, le-leb}
 use Rattle.sm_types.specs.declared.object.Content.{Content}
 use Rattle.sm_types.specs.declared.object.Content.TheVariants as content
 use Rattle.sm_types.specs.declared.object.Object.{Object}
@@ -46,25 +45,19 @@ found-next says a w =
     ∙ governing-append 1 a None (map as_mapping_symbol (answers_below (text_mapping_at says) w))
     (map as_mapping_symbol (answers (text_mapping_at says w)))
 
-at_most : (x a : ℕ) → x ≤ a → nat_le x a ≡ true
-at_most x a h = grind (arith, nat_tests)
-
-above : (x a : ℕ) → a < x → nat_le x a ≡ false
-above x a h = grind (arith, nat_tests)
-
 -- a mapping symbol in front of the address governs it
 more_takes : (a v : ℕ) (best : Option MappingSymbol) (before : Content) (limit : ℕ) → v ≤ a
     → (best ≡ None) ⊎ (Says best before limit × (limit ≤ v))
     → (now : Content) → Says (more a best (Some (record { address = v; content = now }))) now v
-more_takes a v None before limit h s now = rw (at_most v a h) (refl, omega arith)
+more_takes a v None before limit h s now = rw (le-leb v a h) (refl, omega arith)
 more_takes a v (Some m) before limit h (inl e) now = cc
-more_takes a v (Some m) before limit h (inr s) now = rw (at_most v a h, at_most m.value v (omega (arith, s.0.1, s.1))) (refl, omega arith)
+more_takes a v (Some m) before limit h (inr s) now = rw (le-leb v a h, le-leb m.value v (omega (arith, s.0.1, s.1))) (refl, omega arith)
 
 -- a mapping symbol past it does not
 more_skips : (a v : ℕ) (best : Option MappingSymbol) (now : Content) → a < v
     → more a best (Some (record { address = v; content = now })) ≡ best
-more_skips a v None now h = rw (above v a h) refl
-more_skips a v (Some m) now h = rw (above v a h) refl
+more_skips a v None now h = rw (lt-leb v a h) refl
+more_skips a v (Some m) now h = rw (lt-leb v a h) refl
 
 -- no mapping symbol is written where it would say what was said
 said_still : (before now : Content) → is_same (Some before) now ≡ true → before ≡ now

@@ -1,6 +1,7 @@
 -- The symbols of a file that was written are the mapping symbols.
 use Rattle.std.proofs.Common.{◌≡◌, ℕ, zero, suc, ◌+◌, ◌*◌, ◌/◌, ◌%◌, ◌^◌, ◌<◌, Bool, true, false, List, [], ◌∷◌, ◌++◌, length, get_or, drop}
 use Rattle.std.proofs.Common.{map, replicate, Option, Some, None, refl, ap, ◌∙◌, arith, append_assoc}
+use Rattle.plain_lemmas.proofs.Lists.{drop_past}
 use Rattle.byteorder.specs.Endian.{little_number}
 use Rattle.elf_headers.specs.Below.{answers, answers_below}
 use Rattle.elf_headers.specs.Header.{number_at}
@@ -19,7 +20,7 @@ use Rattle.elf_writer.specs.declared.mapping_symbols.TextMapping.{TextMapping}
 use Rattle.elf_writer.specs.declared.file.TheConstants.{STRINGS}
 use Rattle.elf_writer.specs.Layout.{fields_bytes, text_section, data_section, symbols_section, strings_section, symbols_offset}
 use Rattle.elf_writer.specs.File.{name_index, symbol_fields, mapping_bytes, symbols_bytes}
-use Rattle.elf_writer.proofs.Fields.{drop-past, offset, read_field}
+use Rattle.elf_writer.proofs.Fields.{offset, read_field}
 use Rattle.elf_writer.proofs.Reading.{IsFile, Reads, reads, names, past-data, drop-more}
 use Rattle.elf_writer.proofs.Headers.{section_count-is, section_of-0, section_of-text, section_of-data, section_of-symbols}
 use Rattle.elf_writer.proofs.Headers.{section_of-strings, section_of-names}
@@ -42,7 +43,7 @@ symbols_from (m ∷ mappings) zero d h = refl
 symbols_from (m ∷ mappings) (suc k) d h =
     let e : 24 * suc k ≡ length (fields_bytes (symbol_fields m)) + 24 * k = omega (arith, length-mapping m) in
     ap (λ n. drop n (fields_bytes (symbol_fields m) ++ mapping_bytes mappings)) e
-    ∙ drop-past (fields_bytes (symbol_fields m)) (mapping_bytes mappings) (24 * k) ∙ symbols_from mappings k d (omega arith)
+    ∙ drop_past (fields_bytes (symbol_fields m)) (mapping_bytes mappings) (24 * k) ∙ symbols_from mappings k d (omega arith)
 
 symbol_from : (mappings : List TextMapping) (k : ℕ) (d : TextMapping) → k < length mappings
     → drop (24 * suc k) (symbols_bytes mappings) ≡ fields_bytes (symbol_fields (get_or mappings k d))
@@ -50,7 +51,7 @@ symbol_from : (mappings : List TextMapping) (k : ℕ) (d : TextMapping) → k < 
 unfolding symbols_bytes
 symbol_from mappings k d h =
     let e : 24 * suc k ≡ length {A = ℕ} (replicate 24 0) + 24 * k = omega arith in
-    ap (λ n. drop n (replicate 24 0 ++ mapping_bytes mappings)) e ∙ drop-past (replicate 24 0) (mapping_bytes mappings) (24 * k)
+    ap (λ n. drop n (replicate 24 0 ++ mapping_bytes mappings)) e ∙ drop_past (replicate 24 0) (mapping_bytes mappings) (24 * k)
     ∙ symbols_from mappings k d h
 
 symbol_read : (file : List ℕ) (l : Layout) (text bytes : List ℕ) (mappings : List TextMapping) → IsFile file l text bytes mappings

@@ -1,5 +1,5 @@
 -- Fields are read one after the other.
-use Rattle.std.proofs.Common.{◌≡◌, ◌⊎◌, inl, inr, ℕ, zero, suc, ◌+◌, ◌-◌, ◌*◌, ◌/◌, ◌<◌, ◌≤◌, ◌++◌, Bool, true, false, List, [], ◌∷◌, take, drop, length, Some, not, nat_eq}
+use Rattle.std.proofs.Common.{◌≡◌, inl, inr, ℕ, zero, suc, ◌+◌, ◌-◌, ◌*◌, ◌/◌, ◌<◌, ◌≤◌, ◌++◌, Bool, true, false, List, [], ◌∷◌, take, drop, length, Some, not, nat_eq}
 use Rattle.std.proofs.Common.{refl, ap, sym, ◌∙◌, subst, arith, append_assoc, length-append}
 use Rattle.std.specs.Prelude.{nat_lt}
 use Rattle.std.specs.List.{concat}
@@ -10,7 +10,8 @@ use Rattle.std.proofs.lemmas.List.Folds.{concat-append}
 use Rattle.byteorder.specs.Endian.{little_number, little_bytes}
 use Rattle.byteorder.specs.Numbers.{little_from-take}
 use Rattle.std.specs.Str.{bytes_eq}
-use Rattle.std.proofs.lemmas.Slice.Eq.{bytes_eq-Decides}
+use Rattle.plain_lemmas.proofs.Numbers.{cases_le}
+use Rattle.plain_lemmas.proofs.Lists.{bytes_eq-true}
 use Rattle.field_table.specs.Table.{Table, Field, End, first_bad, Passes}
 use Rattle.field_table.specs.Rows.{number, said, fields, rows, repeated}
 use Rattle.field_table.specs.Reading.{Left, Reads, Fails}
@@ -64,9 +65,6 @@ fails_wrong n is_right next from fault l wrong e =
 
 -- ---- the kinds of fields
 
-lt_or : (n m : ℕ) → (n ≤ m) ⊎ (m < n)
-lt_or n m = grind arith
-
 -- a number that is as it must be
 pub number_reads : (n : ℕ) (holds : ℕ → Bool) (next : ℕ → Table) (word : ℕ) (from to : Left) → n ≤ length from.bytes
     → word ≡ little_number n from.bytes → little_bytes n word ≡ take n from.bytes → holds word ≡ true
@@ -91,7 +89,7 @@ pub number_wrong : (n : ℕ) (holds : ℕ → Bool) (next : ℕ → Table) (word
     → Fails (number n holds next) from fault
 unfolding number
 number_wrong n holds next word from fault value wrong e =
-    elim (lt_or n (length from.bytes)) [
+    elim (cases_le n (length from.bytes)) [
       | inl l ↦ fails_wrong n (λ b. holds (little_number n b)) (λ b. next (little_number n b)) from fault l
           (ap holds (little_from-take 0 n n from.bytes (omega arith) ∙ sym (value l)) ∙ wrong) e
       | inr l ↦ number_short n holds next from fault l e
@@ -116,9 +114,6 @@ pub number_passed : (n : ℕ) (holds : ℕ → Bool) (next : ℕ → Table) (wor
 number_passed n holds next word field from to l value is told right end =
     number_reads n holds next word from to l value (tells n from.bytes field word l is value told) right end
 
-same_bytes : (xs ys : List ℕ) → bytes_eq xs ys ≡ true → xs ≡ ys
-same_bytes xs ys e = (bytes_eq-Decides xs ys).0 e
-
 -- bytes that are told
 pub said_reads : (bytes : List ℕ) (next : Table) (from to : Left) → length bytes ≤ length from.bytes
     → bytes_eq (take (length bytes) from.bytes) bytes ≡ true
@@ -126,7 +121,7 @@ pub said_reads : (bytes : List ℕ) (next : Table) (from to : Left) → length b
     → Reads (said bytes next) (bytes ∷ []) next from to
 unfolding said
 said_reads bytes next from to l right end =
-    subst (λ v. Reads (said bytes next) (v ∷ []) next from to) (same_bytes (take (length bytes) from.bytes) bytes right)
+    subst (λ v. Reads (said bytes next) (v ∷ []) next from to) (bytes_eq-true (take (length bytes) from.bytes) bytes right)
     (reads_one (length bytes) (λ b. bytes_eq b bytes) (λ b. next) from to l right (ap (λ t. t.bytes) end) (ap (λ t. t.at) end))
 
 pub said_short : (bytes : List ℕ) (next : Table) (from : Left) (fault : BadField) → length from.bytes < length bytes
@@ -214,7 +209,7 @@ pub fields_fail : (count size : ℕ) (next : Table) (from : Left) (fault : BadFi
 unfolding fields
 fields_fail zero size next from fault l e = absurd (omega (arith, l))
 fields_fail (suc count) size next from fault l e =
-    elim (lt_or size (length from.bytes)) [
+    elim (cases_le size (length from.bytes)) [
       | inr short ↦
           let none : length from.bytes / size ≡ 0 = div-eq_of_lt short in
           fails_short size (λ b. true) (λ b. fields count size next) from fault short

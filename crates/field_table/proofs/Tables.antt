@@ -6,6 +6,7 @@ use Rattle.std.specs.List.{concat}
 use Rattle.std.proofs.lemmas.Bool.Decides.{nat_tests}
 use Rattle.std.proofs.lemmas.List.{take-append-drop, length-take-le}
 use Rattle.std.proofs.Common.{append_assoc, length-append}
+use Rattle.plain_lemmas.proofs.Lists.{append_inj, take_length}
 use Rattle.field_table.specs.Table.{Table, Field, End, first_bad, Passes, IsFilled, Fills}
 
 within : (value rest : List ℕ) → length value ≤ length (value ++ rest)
@@ -17,10 +18,6 @@ not_less n m l = grind (arith, nat_tests)
 
 not_short : (value rest : List ℕ) → nat_lt (length (value ++ rest)) (length value) ≡ false
 not_short value rest = not_less (length value) (length (value ++ rest)) (within value rest)
-
-taken : (value rest : List ℕ) → take (length value) (value ++ rest) ≡ value
-taken [] rest = refl
-taken (x ∷ xs) rest = ap (λ l. x ∷ l) (taken xs rest)
 
 dropped : (value rest : List ℕ) → drop (length value) (value ++ rest) ≡ rest
 dropped [] rest = refl
@@ -35,7 +32,7 @@ field_reads value rest is_right next at right =
     (first_bad (next (take (length value) (value ++ rest))) (drop (length value) (value ++ rest)) (at + length value)) (Some at)))
     (not_short value rest)
     ∙ ap (λ v. cond (is_right v) (first_bad (next v) (drop (length value) (value ++ rest)) (at + length value)) (Some at))
-    (taken value rest)
+    (take_length value rest)
     ∙ ap (λ b. cond b (first_bad (next value) (drop (length value) (value ++ rest)) (at + length value)) (Some at)) right
     ∙ ap (λ r. first_bad (next value) r (at + length value)) (dropped value rest)
 
@@ -72,17 +69,6 @@ reads_filled (Field n is_right next) bytes at h =
       whole = sym (take-append-drop n bytes) ∙ ap (λ l. take n bytes ++ l) rest.whole;
     }
 
-same_front : (v w more rest : List ℕ) → length v ≡ length w → v ++ more ≡ w ++ rest → (v ≡ w) × (more ≡ rest)
-same_front [] [] more rest l e = (refl, e)
-same_front [] (y ∷ ys) more rest l e = cc
-same_front (x ∷ xs) [] more rest l e = cc
-same_front (x ∷ xs) (y ∷ ys) more rest l e =
-    let first : x ≡ y = cc in
-    let others : xs ++ more ≡ ys ++ rest = cc in
-    let long : length xs ≡ length ys = omega (arith, l) in
-    let same = same_front xs ys more rest long others in
-    ((λ i. first i ∷ same.0 i), same.1)
-
 -- a file is filled in one way
 pub one_filling : (table : Table) (values others : List (List ℕ)) → IsFilled table values → IsFilled table others
     → concat values ≡ concat others → values ≡ others
@@ -92,7 +78,7 @@ one_filling End (v ∷ vs) others h k e = absurd h
 one_filling (Field n is_right next) [] others h k e = absurd h
 one_filling (Field n is_right next) (v ∷ vs) [] h k e = absurd k
 one_filling (Field n is_right next) (v ∷ vs) (w ∷ ws) h k e =
-    let same = same_front v w (concat vs) (concat ws) (h.0 ∙ sym k.0) e in
+    let same = append_inj v w (concat vs) (concat ws) (h.0 ∙ sym k.0) e in
     let rest = one_filling (next v) vs ws h.2 (subst (λ u. IsFilled (next u) ws) (sym same.0) k.2) same.1 in
     λ i. same.0 i ∷ rest i
 

@@ -1,12 +1,14 @@
 -- Words and the numbers of their fields.
-use Rattle.std.proofs.Common.{◌≡◌, ℕ, zero, suc, ◌+◌, ◌-◌, ◌%◌, ◌^◌, ◌<◌, ◌==◌, ◌&&◌, Bool, true, false, bit_and, refl, sym, ap, ap₂, ◌∙◌}
+use Rattle.std.proofs.Common.{◌≡◌, ℕ, zero, suc, ◌+◌, ◌-◌, ◌%◌, ◌^◌, ◌<◌, ◌==◌, Bool, true, false, bit_and, refl, sym, ap, ap₂, ◌∙◌}
 use Rattle.std.proofs.Common.{subst, arith, eqb-true, ltb-true, mod-eq_of_lt, List, [], ◌∷◌, length, get_or, drop, drop-cons, add-one}
 use Rattle.std.proofs.Common.{Option, Some, None, cond}
 use Rattle.std.specs.Prelude.{bit_or}
 use Rattle.std.specs.Int.{cast_unsigned, w32}
 use Rattle.std.specs.List.{list_all}
-use Rattle.std.proofs.lemmas.Bool.{and_parts}
+use Rattle.std.proofs.lemmas.Bool.{and_parts, and_from}
 use Rattle.std.proofs.lemmas.Nat.{and_mask, pow_pos, mod_below}
+use Rattle.std.proofs.lemmas.Option.{same_Some}
+use Rattle.plain_lemmas.proofs.Options.{cond_some_parts}
 use Rattle.insn_forms.specs.declared.field.Field.{Field}
 use Rattle.insn_forms.specs.declared.number.Number.{Number}
 use Rattle.insn_forms.specs.declared.number.Number.TheVariants.{Unsigned, Signed}
@@ -84,21 +86,11 @@ unfolding is_in bits
 is_in-lt f (Unsigned n) e = ltb-true n (2 ^ bits_of f) e
 is_in-lt f (Signed z) e = mod_below (cast_unsigned w32 z) (2 ^ bits_of f) (pow_pos (bits_of f))
 
-if_some : (b : Bool) (x : Option ℕ) (w : ℕ) → cond b x None ≡ Some w → (b ≡ true) × (x ≡ Some w)
-if_some true x w e = (refl, e)
-if_some false x w e = cc
-
-both_true : (a b : Bool) → a ≡ true → b ≡ true → (a && b) ≡ true
-both_true a b e f = ap₂ (λ x y. x && y) e f
-
-same_some : (a b : ℕ) → ◌≡◌ {A = Option ℕ} (Some a) (Some b) → a ≡ b
-same_some a b e = cc
-
 pub placed_back : (fs : List Field) (mask value w : ℕ) (ns : List Number) → list_all is_field fs ≡ true → fills mask fs ≡ true
     → bit_and value mask ≡ value → word_in value fs ns ≡ Some w → IsPlaced mask value w fs ns
 unfolding fills are_in all_bits word_in
 placed_back [] mask value w [] all e v says =
-    let same = same_some value w says in
+    let same = same_Some value w says in
     let whole : w % 2 ^ 32 ≡ w =
     sym (and_mask w 32) ∙ ap (bit_and w) (sym (eqb-true mask (2 ^ 32 - 1) e)) ∙ ap (λ x. bit_and x mask) (sym same) ∙ v ∙ same in
     record {
@@ -114,7 +106,7 @@ placed_back (f ∷ fs) mask value w (n ∷ ns) all e v says =
     let h = a_field f a.0 in
     let p = and_parts (bit_and mask (mask_of f) == 0) (fills (bit_or mask (mask_of f)) fs) e in
     let none = eqb-true (bit_and mask (mask_of f)) 0 p.0 in
-    let q = if_some (is_in f n) (word_in (bit_or value (placed f (bits f n))) fs ns) w says in
+    let q = cond_some_parts (is_in f n) (word_in (bit_or value (placed f (bits f n))) fs ns) w says in
     let own = placed-within f (bits f n) h.apart in
     let r =
     placed_back fs (bit_or mask (mask_of f)) (bit_or value (placed f (bits f n))) w ns a.1 p.1
@@ -131,5 +123,5 @@ placed_back (f ∷ fs) mask value w (n ∷ ns) all e v says =
       is_word = r.is_word;
       kept = kept;
       numbers = ap₂ (λ x xs. x ∷ xs) here r.numbers;
-      inside = both_true (is_in f n) (are_in fs ns) q.0 r.inside;
+      inside = and_from (is_in f n) (are_in fs ns) q.0 r.inside;
     }

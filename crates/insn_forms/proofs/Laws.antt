@@ -8,13 +8,15 @@ use Rattle.std.specs.List.{list_all}
 use Rattle.std.proofs.lemmas.Bool.{leb-false, and_parts, cond_both}
 use Rattle.std.proofs.lemmas.Int.{ints}
 use Rattle.std.proofs.lemmas.Nat.{pow_pos, pow_below, pow-add, mod_low}
+use Rattle.plain_lemmas.proofs.Lists.{list_all-get}
+use Rattle.plain_lemmas.proofs.Numbers.{two_pow-halves, pos_sub-lt}
 use Rattle.insn_forms.specs.declared.field.Field.{Field}
 use Rattle.insn_forms.specs.declared.number.Number.{Number}
 use Rattle.insn_forms.specs.declared.number.Number.TheVariants.{Unsigned, Signed}
 use Rattle.insn_forms.specs.Fields.{field_in, bits_of, is_field, signed_value}
 use Rattle.insn_forms.specs.Forms.{fields_in, bits, all_bits, is_signed, is_in, are_in}
 use Rattle.insn_forms.specs.Tables.{numbers_in, signed_numbers_in}
-use Rattle.insn_forms.proofs.Bits.{a_field, field_in-lt, doubled}
+use Rattle.insn_forms.proofs.Bits.{a_field, field_in-lt}
 
 -- ---- what an operation takes from its fields
 -- a number without a sign of at most so many bits, or one with a sign
@@ -79,9 +81,6 @@ within : ℕ → ℤ → Bool
 within h (pos n) = nat_lt n h
 within h (negsuc n) = nat_lt n h
 
-minus : (f whole : ℕ) → f < whole → pos f -ℤ pos whole ≡ negsuc (whole - f - 1)
-minus f whole lt = omega (arith, ints)
-
 below_next : (n k : ℕ) → (nat_le n k && true) ≡ nat_lt n (suc k)
 below_next n k = go (nat_le n k) refl
   where
@@ -91,10 +90,10 @@ below_next n k = go (nat_le n k) refl
 
 by_sign : (h : ℕ) (z : ℤ) → 0 < h → (int_le (pos 0 -ℤ pos h) z && int_lt z (pos h)) ≡ within h z
 unfolding within
-by_sign h (pos n) some = ap (λ x. int_le x (pos n) && nat_lt n h) (minus 0 h some)
+by_sign h (pos n) some = ap (λ x. int_le x (pos n) && nat_lt n h) (pos_sub-lt 0 h some)
 by_sign h (negsuc n) some =
     let e : suc (h - 0 - 1) ≡ h = omega arith in
-    ap (λ x. int_le x (negsuc n) && true) (minus 0 h some) ∙ below_next n (h - 0 - 1) ∙ ap (nat_lt n) e
+    ap (λ x. int_le x (negsuc n) && true) (pos_sub-lt 0 h some) ∙ below_next n (h - 0 - 1) ∙ ap (nat_lt n) e
 
 in_halves : (half whole f : ℕ) → whole ≡ half + half → f < whole → (b : Bool) → (b ≡ true → f < half) → (b ≡ false → half ≤ f)
     → within half (cond b (pos f) (pos f -ℤ pos whole)) ≡ true
@@ -102,14 +101,14 @@ unfolding within
 in_halves half whole f e small true g h = lt-ltb f half (g refl)
 in_halves half whole f e small false g h =
     let k = h refl in
-    ap (within half) (minus f whole small) ∙ lt-ltb (whole - f - 1) half (omega arith)
+    ap (within half) (pos_sub-lt f whole small) ∙ lt-ltb (whole - f - 1) half (omega arith)
 
 pub signed_inside : (n f : ℕ) → 0 < n → f < 2 ^ n → is_signed n (signed_value n f) ≡ true
 unfolding is_signed signed_value
 signed_inside n f some lt =
     let h =
     by_sign (2 ^ (n - 1)) (signed_value n f) (pow_pos (n - 1))
-    ∙ in_halves (2 ^ (n - 1)) (2 ^ n) f (doubled n some) lt (nat_lt f (2 ^ (n - 1))) (ltb-true _ _) (ltb-false _ _) in
+    ∙ in_halves (2 ^ (n - 1)) (2 ^ n) f (two_pow-halves n some) lt (nat_lt f (2 ^ (n - 1))) (ltb-true _ _) (ltb-false _ _) in
     let p = and_parts (int_le (pos 0 -ℤ pos (2 ^ (n - 1))) (signed_value n f)) (int_lt (signed_value n f) (pos (2 ^ (n - 1)))) h in
     ap₂ (λ a b. a && b) (ap₂ (λ a b. a && b) (lt-ltb 0 n some) p.0) p.1
 
@@ -117,14 +116,14 @@ forth_in : (n : ℕ) (z : ℤ) → 0 < n → n < 31 → within (2 ^ (n - 1)) z �
 unfolding within signed_value
 forth_in n (pos m) some few e =
     let h = ltb-true m (2 ^ (n - 1)) e in
-    let d = doubled n some in
+    let d = two_pow-halves n some in
     let top = pow_below n 31 few in
     let c : cast_unsigned w32 (pos m) ≡ m = omega (arith, ints) in
     let lt : m < 2 ^ n = omega arith in
     ap (λ k. signed_value n (k % 2 ^ n)) c ∙ ap (signed_value n) (mod-eq_of_lt lt) ∙ ap (λ b. cond b (pos m) (pos m -ℤ pos (2 ^ n))) e
 forth_in n (negsuc m) some few e =
     let h = ltb-true m (2 ^ (n - 1)) e in
-    let d = doubled n some in
+    let d = two_pow-halves n some in
     let top = pow_below n 31 few in
     let f = 2 ^ n - suc m in
     let lt : f < 2 ^ n = omega arith in
@@ -132,7 +131,7 @@ forth_in n (negsuc m) some few e =
     let over : nat_lt f (2 ^ (n - 1)) ≡ false = le-ltb f (2 ^ (n - 1)) (omega arith) in
     ap (λ k. signed_value n (k % 2 ^ n)) c ∙ ap (signed_value n) (negative_bits n f few lt)
     ∙ ap (λ b. cond b (pos f) (pos f -ℤ pos (2 ^ n))) over
-    ∙ minus f (2 ^ n) lt ∙ ap negsuc (let k : 2 ^ n - f - 1 ≡ m = omega arith in k)
+    ∙ pos_sub-lt f (2 ^ n) lt ∙ ap negsuc (let k : 2 ^ n - f - 1 ≡ m = omega arith in k)
 
 pub signed_forth : (n : ℕ) (z : ℤ) → n < 31 → is_signed n z ≡ true → signed_value n (cast_unsigned w32 z % 2 ^ n) ≡ z
 unfolding is_signed
@@ -216,11 +215,6 @@ unfoldable pub pairwise : {R : Type 0} → (R → R → Bool) → List R → Boo
 pairwise p [] = true
 pairwise p (r ∷ rs) = list_all (p r) rs && pairwise p rs
 
-pub all-get : {R : Type 0} (p : R → Bool) (rs : List R) (i : ℕ) (r : R) → list_all p rs ≡ true → slice_get rs i ≡ Some r → p r ≡ true
-all-get p [] i r e g = cc
-all-get p (x ∷ rs) zero r e g = let same : x ≡ r = cc in ap p (sym same) ∙ (and_parts (p x) (list_all p rs) e).0
-all-get p (x ∷ rs) (suc i) r e g = all-get p rs i r (and_parts (p x) (list_all p rs) e).1 g
-
 -- where a test of each two keeps them apart, those that are not apart have one place
 pub one_place : {R : Type 0} (p : R → R → Bool) (Q : R → Type 0) → ((r s : R) → p r s ≡ true → Q r → Q s → ⊥) → (rs : List R)
     → pairwise p rs ≡ true
@@ -230,11 +224,13 @@ one_place p Q never [] e i j r s f g q h = cc
 one_place p Q never (x ∷ rs) e zero zero r s f g q h = refl
 one_place {R = R} p Q never (x ∷ rs) e zero (suc j) r s f g q h =
     let same : x ≡ r = cc in
-    absurd (never r s (subst (λ (y : R). p y s ≡ true) same (all-get (p x) rs j s (and_parts (list_all (p x) rs) (pairwise p rs) e).0 g)) q
+    absurd (never r s (subst (λ (y : R). p y s ≡ true) same
+    (list_all-get (p x) rs j s (and_parts (list_all (p x) rs) (pairwise p rs) e).0 g)) q
     h)
 one_place {R = R} p Q never (x ∷ rs) e (suc i) zero r s f g q h =
     let same : x ≡ s = cc in
-    absurd (never s r (subst (λ (y : R). p y r ≡ true) same (all-get (p x) rs i r (and_parts (list_all (p x) rs) (pairwise p rs) e).0 f)) h
+    absurd (never s r (subst (λ (y : R). p y r ≡ true) same
+    (list_all-get (p x) rs i r (and_parts (list_all (p x) rs) (pairwise p rs) e).0 f)) h
     q)
 one_place p Q never (x ∷ rs) e (suc i) (suc j) r s f g q h =
     ap suc (one_place p Q never rs (and_parts (list_all (p x) rs) (pairwise p rs) e).1 i j r s f g q h)

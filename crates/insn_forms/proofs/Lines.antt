@@ -2,11 +2,12 @@
 use Rattle.std.proofs.Common.{◌≡◌, ℕ, zero, suc, ◌==◌, ◌&&◌, not, Bool, true, false, cond, refl, ap, ap₂, ◌∙◌, eqb-true, eq-eqb, List, []}
 use Rattle.std.proofs.Common.{◌∷◌, slice_get, Some}
 use Rattle.std.specs.List.{list_all, find}
-use Rattle.std.proofs.lemmas.Bool.{and_parts}
+use Rattle.std.proofs.lemmas.Bool.{and_parts, not-true}
+use Rattle.plain_lemmas.proofs.Lists.{list_all-get}
 use Rattle.insn_forms.specs.declared.field.Field.{Field}
 use Rattle.insn_forms.specs.declared.line.Line.{Line}
 use Rattle.insn_forms.specs.Tables.{Table, fits_in, fits_line, fits_with, has_bits}
-use Rattle.insn_forms.proofs.Laws.{all-get, pairwise}
+use Rattle.insn_forms.proofs.Laws.{pairwise}
 
 -- ---- lists of fields that are one
 unfoldable pub same_field : Field → Field → Bool
@@ -45,10 +46,6 @@ unequal r s = not (has_bits s.mask s.value r)
 has_its_bits : {O : Type 0} (line : Line O) → has_bits line.mask line.value line ≡ true
 has_its_bits line = ap₂ (λ x y. x && y) (eq-eqb line.mask line.mask refl) (eq-eqb line.value line.value refl)
 
-not_true : (b : Bool) → not b ≡ true → b ≡ false
-not_true true e = cc
-not_true false e = refl
-
 line-with : {O : Type 0} (lines : List (Line O)) → pairwise unequal lines ≡ true → (i : ℕ) (line : Line O) → slice_get lines i ≡ Some line
     → find (has_bits line.mask line.value) lines ≡ Some line
 unfolding pairwise unequal
@@ -60,7 +57,7 @@ line-with {O = O} (x ∷ xs) e zero line g =
 line-with (x ∷ xs) e (suc i) line g =
     let p = and_parts (list_all (unequal x) xs) (pairwise unequal xs) e in
     ap (λ b. cond b (Some x) (find (has_bits line.mask line.value) xs))
-    (not_true (has_bits line.mask line.value x) (all-get (unequal x) xs i line p.0 g))
+    (not-true (has_bits line.mask line.value x) (list_all-get (unequal x) xs i line p.0 g))
     ∙ line-with xs p.1 i line g
 
 -- the condition that is found by a line's fixed bits is the line's

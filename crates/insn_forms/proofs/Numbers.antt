@@ -6,11 +6,12 @@ use denote.Enum.Declared.{Declared, variants, tag_of}
 use denote.Enum.Enum.{tag_below}
 use Rattle.std.proofs.lemmas.Bool.{lt-ltb, ltb-true, ltb-false, eqb-false, and_parts}
 use Rattle.std.proofs.lemmas.Int.{ints}
+use Rattle.plain_lemmas.proofs.Numbers.{two_pow-halves}
 use Rattle.insn_forms.specs.declared.field.Field.{Field}
 use Rattle.insn_forms.specs.Fields.{bits_of, field_in, signed_value}
 use Rattle.insn_forms.specs.Forms.{flag_bit, is_signed}
 use Rattle.insn_forms.specs.Values.{IsSigned}
-use Rattle.insn_forms.proofs.Bits.{field_in-lt, doubled}
+use Rattle.insn_forms.proofs.Bits.{field_in-lt}
 
 -- ---- a test of all numbers below a bound
 unfoldable pub all_below : (ℕ → Bool) → ℕ → Bool
@@ -86,7 +87,7 @@ pub signed_small : (f : Field) (w : ℕ) → 0 < bits_of f
 unfolding signed_value
 signed_small f w some =
     let n = field_in f w in
-    in_halves (2 ^ (bits_of f - 1)) (2 ^ bits_of f) n (doubled (bits_of f) some) (field_in-lt f w) (nat_lt n (2 ^ (bits_of f - 1)))
+    in_halves (2 ^ (bits_of f - 1)) (2 ^ bits_of f) n (two_pow-halves (bits_of f) some) (field_in-lt f w) (nat_lt n (2 ^ (bits_of f - 1)))
     (ltb-true _ _) (ltb-false _ _)
 
 pub signed_ranged : (f : Field) (w : ℕ) → 0 < bits_of f → IsSigned (bits_of f) (signed_value (bits_of f) (field_in f w))

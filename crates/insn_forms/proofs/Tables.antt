@@ -4,16 +4,18 @@ use Rattle.std.proofs.Common.{slice_get, Option, Some, None, cond, ℤ}
 use Rattle.std.specs.List.{list_all}
 use Rattle.std.proofs.lemmas.Bool.{and_parts, both_ways}
 use Rattle.std.proofs.lemmas.Nat.{and_assoc, and_comm}
+use Rattle.std.proofs.lemmas.Option.{same_Some}
 use Rattle.insn_forms.specs.declared.field.Field.{Field}
 use Rattle.insn_forms.specs.declared.number.Number.{Number}
 use Rattle.std.specs.Prelude.{bit_or}
+use Rattle.plain_lemmas.proofs.Lists.{list_all-get}
 use Rattle.insn_forms.specs.declared.line.Line.{Line}
 use Rattle.insn_forms.specs.declared.number.Parts.{Parts}
 use Rattle.insn_forms.specs.Fields.{is_field, list_of, placed}
 use Rattle.insn_forms.specs.Forms.{is_in, are_in, word_in, bits, fills, is_form}
 use Rattle.insn_forms.specs.Tables.{Table, Means, numbers_in, signed_numbers_in, fits_in}
 use Rattle.insn_forms.proofs.Forms.{in_places, placed_back, IsPlaced}
-use Rattle.insn_forms.proofs.Laws.{Take, taken, are_small, agrees, suits, fields-small, taken-bits, taken-in, bits-agree, all-get}
+use Rattle.insn_forms.proofs.Laws.{Take, taken, are_small, agrees, suits, fields-small, taken-bits, taken-in, bits-agree}
 
 -- what a table has to meet, with the operation and numbers that an instruction tells
 pub record IsTable {O I : Type 0} (t : Table O I) (parts : I → Option (Parts O)) : Type 0 where
@@ -75,16 +77,14 @@ a_word (f ∷ fs) (n ∷ ns) value e =
     let r = a_word fs ns (bit_or value (placed f (bits f n))) p.1 in
     (r.0, ap (λ b. cond b (word_in (bit_or value (placed f (bits f n))) fs ns) None) p.0 ∙ r.1)
 
-same_number : (a b : ℕ) → ◌≡◌ {A = Option ℕ} (Some a) (Some b) → a ≡ b
-same_number a b e = cc
-
 module _ {O I : Type 0} (t : Table O I) (parts : I → Option (Parts O)) (h : IsTable t parts) where
   form_of : (i : ℕ) (r : Line O) → slice_get t.lines i ≡ Some r → IsForm r.mask r.value (list_of r.fields)
   form_of i r g =
-      a_form r.mask r.value (list_of r.fields) (all-get (λ (r : Line O). is_form r.mask r.value (list_of r.fields)) t.lines i r h.forms g)
+      a_form r.mask r.value (list_of r.fields)
+      (list_all-get (λ (r : Line O). is_form r.mask r.value (list_of r.fields)) t.lines i r h.forms g)
 
   suit_of : (i : ℕ) (r : Line O) → slice_get t.lines i ≡ Some r → suits (h.takes r.operation) (list_of r.fields) ≡ true
-  suit_of i r g = all-get (λ (r : Line O). suits (h.takes r.operation) (list_of r.fields)) t.lines i r h.suit g
+  suit_of i r g = list_all-get (λ (r : Line O). suits (h.takes r.operation) (list_of r.fields)) t.lines i r h.suit g
 
   -- the fields of a line can be read
   pub line-fields : (i : ℕ) (r : Line O) → slice_get t.lines i ≡ Some r → list_all is_field (list_of r.fields) ≡ true
@@ -179,7 +179,7 @@ module _ {O I : Type 0} (t : Table O I) (parts : I → Option (Parts O)) (h : Is
       let p = same_parts d.told e.told (sym d.has ∙ e.has) in
       let i = h.own d.place e.place d.line e.line d.listed e.listed (d.same ∙ ap (λ (q : Parts O). q.operation) p ∙ sym e.same) in
       let r = same_line d.line e.line (sym d.listed ∙ ap (slice_get t.lines) i ∙ e.listed) in
-      same_number w v (sym d.says ∙ ap₂ (λ (x : Line O) (q : Parts O). word_in x.value (list_of x.fields) q.numbers) r p ∙ e.says)
+      same_Some w v (sym d.says ∙ ap₂ (λ (x : Line O) (q : Parts O). word_in x.value (list_of x.fields) q.numbers) r p ∙ e.says)
 
 -- ---- lines apart
 -- the two lines fix a common bit at different values

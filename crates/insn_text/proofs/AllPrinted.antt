@@ -1,6 +1,7 @@
 -- Each word that means an instruction has a text.
 use Rattle.std.proofs.Common.{◌≡◌, ℕ, Bool, true, bit_and, refl, sym, ◌∙◌, inl, inr}
 use Rattle.std.specs.List.{list_all}
+use Rattle.plain_lemmas.proofs.Lists.{list_all-get}
 use Rattle.bit_ops.specs.Masks.{highest_one}
 use Rattle.sm_types.specs.declared.insn.Insn.{Insn}
 use Rattle.insn_forms.specs.declared.line.Line.{Line}
@@ -15,7 +16,6 @@ use Rattle.a64_encode.specs.Either.{MeansEither}
 use Rattle.insn_text.specs.declared.shapes.TheConstants.{SHAPES}
 use Rattle.insn_text.specs.Texts.{items_in, items_of, printed_shape}
 use Rattle.insn_text.specs.Rules.{IsPrinted}
-use Rattle.insn_text.proofs.Tables.{all_get}
 use Rattle.insn_text.proofs.Regions.{is_apart, is_inside, free_bit, covers_at, covers, keep_unless, kept, find-kept, covers-printed}
 use Rattle.insn_text.proofs.Known.{same, fixed, ends, never, is_field, has_three_shifts, has_amounts, has_masks, accesses_one, loads_two}
 use Rattle.insn_text.proofs.Known.{writes_two, sizes, is_mask_field, says_kind, says_rule, says_item, says, said}
@@ -42,5 +42,5 @@ row-printed word r m f e =
 pub all_printed : (word : ℕ) (it : Insn) → MeansEither word it → IsPrinted word
 unfolding scalar
 all_printed word it (inl m) =
-    row-printed word m.line m.matches m.fits (all_get row_printed SCALAR_LINES m.place m.line rows_printed m.listed)
+    row-printed word m.line m.matches m.fits (list_all-get row_printed SCALAR_LINES m.place m.line rows_printed m.listed)
 all_printed word it (inr m) = vector_printed word it m

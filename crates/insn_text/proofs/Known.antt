@@ -1,9 +1,10 @@
 -- What a region and a group's condition say of the operands of a shape, and which regions have no word of the group.
-use Rattle.std.proofs.Common.{◌≡◌, ◌≢◌, ◌⊎◌, inl, inr, ℕ, ◌+◌, ◌*◌, ◌/◌, ◌%◌, ◌^◌, ◌<◌, ◌≤◌, Bool, true, false, not, ◌&&◌, ◌||◌, ◌==◌}
+use Rattle.std.proofs.Common.{◌≡◌, ◌≢◌, inl, inr, ℕ, ◌+◌, ◌*◌, ◌/◌, ◌%◌, ◌^◌, ◌<◌, ◌≤◌, Bool, true, false, not, ◌&&◌, ◌||◌, ◌==◌}
 use Rattle.std.proofs.Common.{nat_lt, nat_le, cond, List, [], ◌∷◌, bit_and, refl, sym, ap, ap₂, ◌∙◌, arith, eqb-true, eq-eqb, lt-ltb}
 use Rattle.std.proofs.Common.{ltb-true, leb-true}
 use Rattle.std.specs.List.{list_all}
-use Rattle.std.proofs.lemmas.Bool.{and_from, and_parts, both_ways, le-leb}
+use Rattle.std.proofs.lemmas.Bool.{and_from, and_parts, both_ways, le-leb, or_cases}
+use Rattle.plain_lemmas.proofs.Tests.{not_both}
 use Rattle.bit_ops.specs.Masks.{are_mask_fields, is_reserved}
 use Rattle.sm_types.specs.declared.insn.PairOp.TheVariants.{Ldp}
 use Rattle.sm_types.specs.declared.insn.PairIndex.TheVariants as index
@@ -56,20 +57,12 @@ one_at : (word bit : ℕ) → bit_of word bit ≡ true → field_of word bit 1 �
 unfolding bit_of
 one_at word bit e = eqb-true _ _ e
 
-not_both : (b : Bool) → not b ≡ true → b ≡ true → ⊥
-not_both true x y = cc
-not_both false x y = cc
-
 zero_at : (word bit : ℕ) → bit_of word bit ≡ false → field_of word bit 1 ≡ 0
 unfolding bit_of
 zero_at word bit e =
     let lt = field_below word bit 1 in
     let ne : field_of word bit 1 ≢ 1 = λ f. both_ways _ e (eq-eqb _ _ f) in
     omega arith
-
-either_true : (a b : Bool) → (a || b) ≡ true → (a ≡ true) ⊎ (b ≡ true)
-either_true true b e = inl refl
-either_true false b e = inr e
 
 -- ---- regions without words
 
@@ -145,7 +138,7 @@ no_halfword : (word : ℕ) → Two word 31 false 22 true → (number_in SF word 
 unfolding bit_of
 no_halfword word t f =
     let e = sym (ap₂ (λ x n. (x == 1) || nat_lt n 2) (plain 31 1 word) (plain 21 2 word)) ∙ f in
-    elim (either_true (field_of word 31 1 == 1) (nat_lt (field_of word 21 2) 2) e) [
+    elim (or_cases (field_of word 31 1 == 1) (nat_lt (field_of word 21 2) 2) e) [
       | inl h ↦ both_ways _ t.first h
       | inr h ↦ let lt =
           ltb-true (field_of word 21 2) 2 h in omega (arith, one_at word 22 t.second, split word 21 1, split word 22 1, split word 21 2)
@@ -180,7 +173,7 @@ no_option : (word : ℕ) → field_of word 14 1 ≡ 0 → is_address_option (fie
 unfolding is_address_option
 no_option word z e =
     let option = field_of word 13 3 in
-    elim (either_true (option == 2 || option == 3 || option == 6) (option == 7) e) [
+    elim (or_cases (option == 2 || option == 3 || option == 6) (option == 7) e) [
       | inr h ↦ (let n : option ≡ 7 = eqb-true _ _ h in
           omega (
             arith,
@@ -192,7 +185,7 @@ no_option word z e =
             field_below word 13 1,
             field_below word 15 1,
           ))
-      | inl f ↦ elim (either_true (option == 2 || option == 3) (option == 6) f) [
+      | inl f ↦ elim (or_cases (option == 2 || option == 3) (option == 6) f) [
         | inr h ↦ (let n : option ≡ 6 = eqb-true _ _ h in
             omega (
               arith,
@@ -204,7 +197,7 @@ no_option word z e =
               field_below word 13 1,
               field_below word 15 1,
             ))
-        | inl g ↦ elim (either_true (option == 2) (option == 3) g) [
+        | inl g ↦ elim (or_cases (option == 2) (option == 3) g) [
           | inr h ↦ (let n : option ≡ 3 = eqb-true _ _ h in
               omega (
                 arith,
@@ -246,7 +239,7 @@ no_size word m v r e l =
     let long = fixed m v 31 true && fixed m v 30 true in
     let short = fixed m v 31 true && fixed m v 30 false in
     let both_set = fixed m v 23 true && fixed m v 22 true in
-    elim (either_true (long && fixed m v 23 true) (short && both_set) e) [
+    elim (or_cases (long && fixed m v 23 true) (short && both_set) e) [
       | inl h ↦ (let p = and_parts long (fixed m v 23 true) h in
           no_long_signed_load word (two word m v 31 true 30 true r p.0) (fixed_bit word m v 23 true r p.1) l)
       | inr h ↦ (let p = and_parts short both_set h in
@@ -260,7 +253,7 @@ no_extension word m v r h e =
 never-register : (word m v : ℕ) → bit_and word m ≡ v → (sizes m v || fixed m v 14 false) ≡ true
     → fits_of (G18 Register) (numbers_in word) ≡ true → ⊥
 unfolding fits_of
-never-register word m v r e f = elim (either_true (sizes m v) (fixed m v 14 false) e) [
+never-register word m v r e f = elim (or_cases (sizes m v) (fixed m v 14 false) e) [
   | inl h ↦ no_size word m v r h (loads Register word f)
   | inr h ↦ no_extension word m v r h (and_parts _ _ f).1
 ]
@@ -271,7 +264,7 @@ never (G2 op) word m v r e f = no_narrow_amount word (two word m v 31 false 15 t
 never (G3 op inverted) word m v r e f = no_narrow_amount word (two word m v 31 false 15 true r e) f
 never (G5 op) word m v r e f = no_mask word _ _ (two word m v 31 false 22 true r e) f
 never (G6 op) word m v r e f = no_halfword word (two word m v 31 false 22 true r e) f
-never (G7 op false) word m v r e f = elim (either_true (fixed m v 21 true) (fixed m v 15 true) e) [
+never (G7 op false) word m v r e f = elim (or_cases (fixed m v 21 true) (fixed m v 15 true) e) [
   | inl h ↦ no_high_immr word (fixed_bit word m v 21 true r h) (and_parts _ _ f).0
   | inr h ↦ no_high_amount word (fixed_bit word m v 15 true r h) (and_parts _ _ f).1
 ]
@@ -428,15 +421,15 @@ named_within : (g : Operation) (word m v : ℕ) (i : Item) (count : ℕ) → bit
     → (nat_le (2 ^ bits_of i) count || (count == 3
     && ((has_three_shifts g && is_field i 22 2) || (is_field i 13 2 && (fixed m v 13 false || fixed m v 14 false))))) ≡ true
     → field_in i word < count
-named_within g word m v i count r f e = elim (either_true (nat_le (2 ^ bits_of i) count) _ e) [
+named_within g word m v i count r f e = elim (or_cases (nat_le (2 ^ bits_of i) count) _ e) [
   | inl h ↦ (let le = leb-true (2 ^ bits_of i) count h in let lt = field_bound i word in omega arith)
   | inr h ↦ (let three : count ≡ 3 = eqb-true _ _ (and_parts (count == 3) _ h).0 in
-      elim (either_true (has_three_shifts g && is_field i 22 2) _ (and_parts (count == 3) _ h).1) [
+      elim (or_cases (has_three_shifts g && is_field i 22 2) _ (and_parts (count == 3) _ h).1) [
         | inl k ↦ (let p = and_parts (has_three_shifts g) (is_field i 22 2) k in let same_field = field_is i word 22 2 p.1 in
             let lt = three_shifts g word p.0 f in omega arith)
         | inr k ↦ (let p = and_parts (is_field i 13 2) (fixed m v 13 false || fixed m v 14 false) k in
             let same_field = field_is i word 13 2 p.0 in
-            elim (either_true (fixed m v 13 false) (fixed m v 14 false) p.1) [
+            elim (or_cases (fixed m v 13 false) (fixed m v 14 false) p.1) [
               | inl x ↦ (let z = zero_at word 13 (fixed_bit word m v 13 false r x) in
                   omega (arith, z, same_field, three, split word 13 1, split word 14 1, split word 13 2, field_below word 14 1))
               | inr x ↦ (let z = zero_at word 14 (fixed_bit word m v 14 false r x) in
@@ -512,7 +505,7 @@ kind_within g word m v i (Punctuation c) r f e = refl
 kind_within g word m v i (Keyword first count) r f e = lt-ltb (field_in i word) count (named_within g word m v i count r f e)
 kind_within g word m v i (kind.Register file last) r f e = refl
 kind_within g word m v i (Unsigned base scale most) r f e =
-    elim (either_true (nat_le (2 ^ bits_of i) (most + 1)) (has_amounts g && (is_field i 10 3 && most == 4)) e) [
+    elim (or_cases (nat_le (2 ^ bits_of i) (most + 1)) (has_amounts g && (is_field i 10 3 && most == 4)) e) [
       | inl h ↦ (let le = leb-true (2 ^ bits_of i) (most + 1) h in let lt = field_bound i word in le-leb _ _ (omega arith))
       | inr h ↦ (let p = and_parts (has_amounts g) (is_field i 10 3 && most == 4) h in
           let q = and_parts (is_field i 10 3) (most == 4) p.1 in

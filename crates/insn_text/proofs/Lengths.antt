@@ -11,6 +11,7 @@ use Rattle.std.specs.Prelude.{codes}
 use Rattle.std.proofs.lemmas.Nat.{mod_below, pow_below, pow-add, pow_pos}
 use Rattle.std.proofs.lemmas.Bool.{and_parts, cond_both}
 use Rattle.std.proofs.Math.Nat.{mul-le-mul_left, pow-suc}
+use Rattle.plain_lemmas.proofs.Lists.{list_all-get, list_all-drop, list_all-take}
 use Rattle.bit_ops.specs.Bits.{width_of, number_of_digits}
 use Rattle.bit_ops.specs.Sums.{bool_number}
 use Rattle.bit_ops.specs.Masks.{bit_mask_of, is_reserved, mask_of, turn_of, size_of as element_size, ones_of}
@@ -39,7 +40,7 @@ use Rattle.insn_text.specs.Texts.{kind_text, bits_of, field_in, item_text, is_pu
 use Rattle.insn_text.specs.Texts.{items_in, items_of, shape_text, prints, printed_shape}
 use Rattle.insn_text.specs.Indices.{is_sized}
 use Rattle.insn_text.proofs.Sizes.{sizes}
-use Rattle.insn_text.proofs.Tables.{all_take, all_drop, all_get, items_sized}
+use Rattle.insn_text.proofs.Tables.{items_sized}
 
 -- ---- words and names
 
@@ -58,7 +59,7 @@ short_in : (texts : List Text) (index : ℕ) (o : Option Text) → slice_get tex
     → length (text_in o) ≤ 10
 unfolding text_in is_short_text
 short_in texts index None g e = omega arith
-short_in texts index (Some t) g e = leb-true (length (take t.length t.bytes)) 10 (all_get is_short_text texts index t e g)
+short_in texts index (Some t) g e = leb-true (length (take t.length t.bytes)) 10 (list_all-get is_short_text texts index t e g)
 
 word_short : (index : ℕ) → length (text_at KEYWORDS index) ≤ 10
 word_short index = short_in KEYWORDS index (slice_get KEYWORDS index) refl words_short
@@ -254,7 +255,7 @@ suffixes_short = refl
 suffix_by : (index : ℕ) (o : Option Text) → slice_get SUFFIXES index ≡ o → length (text_in o) ≤ 3
 unfolding text_in is_short_suffix
 suffix_by index None g = omega arith
-suffix_by index (Some t) g = leb-true (length (take t.length t.bytes)) 3 (all_get is_short_suffix SUFFIXES index t suffixes_short g)
+suffix_by index (Some t) g = leb-true (length (take t.length t.bytes)) 3 (list_all-get is_short_suffix SUFFIXES index t suffixes_short g)
 
 suffix_length : (index : ℕ) → length (text_at SUFFIXES index) ≤ 3
 suffix_length index = suffix_by index (slice_get SUFFIXES index) refl
@@ -412,9 +413,9 @@ shape_length s word e =
     let is = take s.count (drop s.first all) in
     let short : 10 + items_room is < 96 = ltb-true (10 + items_room is) 96 e in
     let rest = items_length word (Punctuation 44) is
-    (all_take is_sized s.count (drop s.first all) (all_drop is_sized s.first all (items_sized s.list)))
-    (all_take (λ i. is_small i.kind (bits_of i)) s.count (drop s.first all)
-    (all_drop (λ i. is_small i.kind (bits_of i)) s.first all (items_small s.list))) in
+    (list_all-take is_sized s.count (drop s.first all) (list_all-drop is_sized s.first all (items_sized s.list)))
+    (list_all-take (λ i. is_small i.kind (bits_of i)) s.count (drop s.first all)
+    (list_all-drop (λ i. is_small i.kind (bits_of i)) s.first all (items_small s.list))) in
     omega (arith, rest, name_short s.mnemonic, length-append (text_at MNEMONICS s.mnemonic) (items_text word (Punctuation 44) is))
 
 find_passes : (p q : Shape → Bool) (ss : List Shape) (s : Shape) → list_all q ss ≡ true → find p ss ≡ Some s → q s ≡ true

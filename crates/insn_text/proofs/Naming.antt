@@ -1,11 +1,14 @@
 -- The mnemonic in which a word is printed is that of its operation.
-use Rattle.std.proofs.Common.{◌≡◌, ℕ, zero, suc, ◌==◌, ◌&&◌, ◌||◌, not, Bool, true, false, cond, bit_and, List, [], ◌∷◌, slice_get, Option}
-use Rattle.std.proofs.Common.{Some, refl, sym, ap, ◌∙◌, subst, eqb-true, eq-eqb}
+use Rattle.std.proofs.Common.{◌≡◌, ℕ, ◌==◌, ◌&&◌, ◌||◌, not, Bool, true, false, cond, bit_and, List, [], ◌∷◌, slice_get}
+use Rattle.std.proofs.Common.{Some, refl, sym, ap, ◌∙◌, eqb-true, eq-eqb}
 use Rattle.std.specs.List.{list_all, find}
 use Rattle.std.specs.Str.{bytes_eq}
 use Rattle.std.proofs.lemmas.Bool.{and_parts}
 use Rattle.std.proofs.lemmas.Slice.Eq.{bytes_eq-Decides}
 use Rattle.std.proofs.lemmas.Nat.{and_assoc, and_comm}
+use Rattle.std.proofs.lemmas.Option.{same_Some}
+use Rattle.plain_lemmas.proofs.Lists.{list_all-get}
+use Rattle.plain_lemmas.proofs.Tests.{implied}
 use Rattle.insn_forms.specs.declared.field.Field.{Field}
 use Rattle.insn_forms.specs.declared.line.Line.{Line}
 use Rattle.insn_forms.specs.Fields.{field_of, field_in, upper_mask, lower_mask, mask_of}
@@ -133,26 +136,14 @@ unfolding text_in field_of field_in mask_of is_set is_set_whole text_or_none nth
     atomic_fields naming_fields is_named_by is_named
 all_named = refl
 
-same_of : {A : Type 0} (a b : A) → ◌≡◌ {A = Option A} (Some a) (Some b) → a ≡ b
-same_of a b e = cc
-
-pub all_get : {A : Type 0} (p : A → Bool) (xs : List A) (k : ℕ) (x : A) → list_all p xs ≡ true → slice_get xs k ≡ Some x → p x ≡ true
-all_get p [] k x e g = cc
-all_get p (y ∷ ys) zero x e g = subst (λ z. p z ≡ true) (same_of y x g) (and_parts (p y) (list_all p ys) e).0
-all_get p (y ∷ ys) (suc k) x e g = all_get p ys k x (and_parts (p y) (list_all p ys) e).1 g
-
 pub found : (p q : Shape → Bool) (ss : List Shape) (s : Shape) → list_all q ss ≡ true → find p ss ≡ Some s → (p s ≡ true) × (q s ≡ true)
 found p q [] s a e = cc
 found p q (r ∷ ss) s a e =
     let b = and_parts (q r) (list_all q ss) a in
     elim (p r) as (λ t. p r ≡ t → cond t (Some r) (find p ss) ≡ Some s → (p s ≡ true) × (q s ≡ true)) [
-      | true ↦ λ is h. let same = same_of r s h in (ap p (sym same) ∙ is, ap q (sym same) ∙ b.0)
+      | true ↦ λ is h. let same = same_Some r s h in (ap p (sym same) ∙ is, ap q (sym same) ∙ b.0)
       | false ↦ λ is h. found p q ss s b.1 h
     ] refl e
-
-pub when : (a b : Bool) → a ≡ true → (not a || b) ≡ true → b ≡ true
-when true b e h = h
-when false b e h = cc
 
 pub unless : (a b : Bool) → not a ≡ true → (a || b) ≡ true → b ≡ true
 unless true b e h = cc
@@ -169,7 +160,7 @@ named_by s w line ms ml e =
     ap (λ v. bit_and v s.mask) (sym ml) ∙ swap w line.mask s.mask ∙ ap (λ v. bit_and v line.mask) ms in
     let parts =
     and_parts (bytes_eq (text_at MNEMONICS s.mnemonic) (mnemonic_of line.operation (numbers_in s.value)))
-    (list_all (is_set_whole s.mask) (naming_fields line.operation)) (when _ _ (eq-eqb _ _ common) e) in
+    (list_all (is_set_whole s.mask) (naming_fields line.operation)) (implied _ _ e (eq-eqb _ _ common)) in
     (bytes_eq-Decides (text_at MNEMONICS s.mnemonic) (mnemonic_of line.operation (numbers_in s.value))).0 parts.0
     ∙ name-same line.operation (numbers_in s.value) (numbers_in w) (numbers-same s w (naming_fields line.operation) ms parts.1)
 
@@ -180,4 +171,4 @@ unfolding printed_shape prints is_named
 named w index line s listed matches e =
     let f = found (λ x. not x.alias && (bit_and w x.mask == x.value)) is_named SHAPES s all_named e in
     let p = and_parts (not s.alias) (bit_and w s.mask == s.value) f.0 in
-    named_by s w line (eqb-true _ _ p.1) matches (all_get (is_named_by s) SCALAR_LINES index line (unless s.alias _ p.0 f.1) listed)
+    named_by s w line (eqb-true _ _ p.1) matches (list_all-get (is_named_by s) SCALAR_LINES index line (unless s.alias _ p.0 f.1) listed)

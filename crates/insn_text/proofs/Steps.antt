@@ -5,7 +5,7 @@ use Rattle.std.proofs.Common.{add-one, eq-eqb, length-append, length-take-le}
 use Rattle.std.specs.Fmt.{digit_glyph, digits_onto}
 use Rattle.std.specs.Option.{option_or}
 use Rattle.std.proofs.lemmas.Grind.{drop-set_at}
-use Rattle.std.proofs.lemmas.List.{append-nil}
+use Rattle.std.proofs.lemmas.List.{append-nil, drop_more}
 use Rattle.std.proofs.Math.ListN.{drop_of_length-le}
 use Rattle.std.proofs.Math.Nat.{pow-suc}
 use borrow.Author.Tests.{ne_eqb}
@@ -103,15 +103,12 @@ hex-whole bs done n d all lt len glyph none_left h =
 
 -- ---- operands
 
-items-at : (is : List Item) (at : ℕ) (d : Item) → at < length is → drop at is ≡ get_or is at d ∷ drop (at + 1) is
-items-at is at d lt = rw (add-one, drop-cons is at d) refl
-
 -- what is written at an operand, and after it
 items-here : (w : ℕ) (is : List Item) (at : ℕ) (d : Item) (before : Kind) → at < length is
     → items_text w before (drop at is) ≡ gap before (get_or is at d).kind
     ++ (item_text w (get_or is at d) ++ items_text w (get_or is at d).kind (drop (at + 1) is))
 unfolding items_text
-items-here w is at d before lt = ap (items_text w before) (items-at is at d lt)
+items-here w is at d before lt = ap (items_text w before) (drop_more is at d lt)
 
 room-items : (start gap text rest all : List ℕ) → start ++ (gap ++ (text ++ rest)) ≡ all → length all ≤ 96
     → length start + length gap + length text ≤ 96

@@ -1,11 +1,12 @@
 -- What holds of the tables' texts and operands.
 use Rattle.std.proofs.Common.{◌≡◌, ℕ, zero, suc, ◌<◌, Bool, true, ◌&&◌, nat_lt, ltb-true, List, [], ◌∷◌, Option, Some, None, slice_get}
-use Rattle.std.proofs.Common.{get_or, take, drop, length, refl, sym, ap, ◌∙◌, arith}
+use Rattle.std.proofs.Common.{take, drop, length, refl, sym, ap, ◌∙◌}
 use Rattle.std.specs.List.{list_all}
 use Rattle.std.specs.Str.{IsAscii}
-use Rattle.std.proofs.lemmas.Bool.{and_from, and_parts}
+use Rattle.std.proofs.lemmas.Bool.{and_parts}
 use Rattle.std.proofs.lemmas.Str.{IsAscii-take}
 use Rattle.std.proofs.lemmas.Str.Ascii.{IsAscii-nil}
+use Rattle.plain_lemmas.proofs.Lists.{list_all-get, list_all-drop, list_all-take}
 use Rattle.insn_forms.specs.Fields.{mask_of, is_field}
 use Rattle.insn_text.specs.declared.item.Kind.{Kind}
 use Rattle.insn_text.specs.declared.item.Kind.TheVariants.{Punctuation, Sized}
@@ -18,27 +19,6 @@ use Rattle.insn_text.specs.declared.item.ItemList.TheVariants as list
 use Rattle.insn_text.specs.Texts.{text_in, text_at, items_in}
 use Rattle.insn_text.specs.Indices.{is_writable, is_sized}
 
-pub all_take : {X : Type 0} (p : X → Bool) (n : ℕ) (xs : List X) → list_all p xs ≡ true → list_all p (take n xs) ≡ true
-all_take p zero xs e = refl
-all_take p (suc n) [] e = refl
-all_take p (suc n) (x ∷ xs) e =
-    let h = and_parts (p x) (list_all p xs) e in and_from (p x) (list_all p (take n xs)) h.0 (all_take p n xs h.1)
-
-pub all_drop : {X : Type 0} (p : X → Bool) (n : ℕ) (xs : List X) → list_all p xs ≡ true → list_all p (drop n xs) ≡ true
-all_drop p zero xs e = e
-all_drop p (suc n) [] e = refl
-all_drop p (suc n) (x ∷ xs) e = all_drop p n xs (and_parts (p x) (list_all p xs) e).1
-
-pub all_get : {X : Type 0} (p : X → Bool) (xs : List X) (i : ℕ) (x : X) → list_all p xs ≡ true → slice_get xs i ≡ Some x → p x ≡ true
-all_get p [] i x e g = cc
-all_get p (y ∷ ys) zero x e g = let same : y ≡ x = cc in let h = (and_parts (p y) (list_all p ys) e).0 in cc
-all_get p (y ∷ ys) (suc i) x e g = all_get p ys i x (and_parts (p y) (list_all p ys) e).1 g
-
-pub all_at : {X : Type 0} (p : X → Bool) (xs : List X) (i : ℕ) (d : X) → list_all p xs ≡ true → i < length xs → p (get_or xs i d) ≡ true
-all_at p [] i d e lt = absurd (omega arith)
-all_at p (y ∷ ys) zero d e lt = (and_parts (p y) (list_all p ys) e).0
-all_at p (y ∷ ys) (suc i) d e lt = all_at p ys i d (and_parts (p y) (list_all p ys) e).1 (omega arith)
-
 -- ---- operands
 
 pub items_sized : (list : ItemList) → list_all is_sized (items_in list) ≡ true
@@ -49,7 +29,7 @@ items_sized list.Matrix = refl
 
 pub sized_run : (list : ItemList) (first count : ℕ) → list_all is_sized (take count (drop first (items_in list))) ≡ true
 sized_run list first count =
-    all_take is_sized count (drop first (items_in list)) (all_drop is_sized first (items_in list) (items_sized list))
+    list_all-take is_sized count (drop first (items_in list)) (list_all-drop is_sized first (items_in list) (items_sized list))
 
 -- ---- texts
 
@@ -73,7 +53,7 @@ ascii_in : (texts : List Text) (index : ℕ) (o : Option Text) → slice_get tex
     → IsAscii (text_in o)
 unfolding text_in is_ascii_text
 ascii_in texts index None g e = IsAscii-nil
-ascii_in texts index (Some t) g e = IsAscii-take t.bytes t.length (bytes_ascii t.bytes (all_get is_ascii_text texts index t e g))
+ascii_in texts index (Some t) g e = IsAscii-take t.bytes t.length (bytes_ascii t.bytes (list_all-get is_ascii_text texts index t e g))
 
 pub word_ascii : (index : ℕ) → IsAscii (text_at KEYWORDS index)
 word_ascii index = ascii_in KEYWORDS index (slice_get KEYWORDS index) refl words_ascii

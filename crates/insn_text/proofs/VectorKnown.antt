@@ -5,6 +5,7 @@ use Rattle.std.specs.Prelude.{bit_or}
 use Rattle.std.specs.List.{list_all}
 use Rattle.std.proofs.lemmas.Bool.{and_from, and_parts, both_ways}
 use Rattle.std.proofs.lemmas.Nat.{and_assoc}
+use Rattle.plain_lemmas.proofs.Tests.{not_both}
 use Rattle.sm_types.specs.declared.vector.Elem.TheVariants.{H, S}
 use Rattle.insn_forms.specs.declared.field.Field.{Field}
 use Rattle.insn_forms.specs.Fields.{field_of, field_in as number_in, upper_mask, lower_mask, mask_of}
@@ -108,10 +109,6 @@ size_bits = 13 ∷ 21 ∷ 22 ∷ 23 ∷ 24 ∷ []
 
 unfoldable pub vector_ends : VectorOperation → ℕ → ℕ → Bool
 vector_ends o mask value = ends_by o size_bits mask value
-
-not_both : (b : Bool) → not b ≡ true → b ≡ true → ⊥
-not_both true x y = cc
-not_both false x y = cc
 
 never_here : (o : VectorOperation) (word mask value : ℕ) → bit_and word mask ≡ value → has_none o mask value ≡ true
     → fits_of o (numbers_in word) ≡ true → ⊥

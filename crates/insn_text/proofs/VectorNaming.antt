@@ -5,6 +5,8 @@ use Rattle.std.specs.List.{list_all}
 use Rattle.std.specs.Str.{bytes_eq}
 use Rattle.std.proofs.lemmas.Bool.{and_parts}
 use Rattle.std.proofs.lemmas.Slice.Eq.{bytes_eq-Decides}
+use Rattle.plain_lemmas.proofs.Lists.{list_all-get}
+use Rattle.plain_lemmas.proofs.Tests.{implied}
 use Rattle.insn_forms.specs.declared.field.Field.{Field}
 use Rattle.insn_forms.specs.declared.line.Line.{Line}
 use Rattle.insn_forms.specs.Fields.{field_of, field_in, mask_of}
@@ -31,7 +33,7 @@ use Rattle.insn_text.specs.VectorMnemonics.{element_letter, elem_letter, copy_na
 use Rattle.insn_text.specs.VectorMnemonics.{predicate_form_name, count_name, element_name, memory_letters, transfer_name}
 use Rattle.insn_text.specs.VectorMnemonics.{vector_access_name, sve2_name, array_name, signs_name, streaming_name, vector_mnemonic_of}
 use Rattle.insn_text.specs.Cited.{is_set}
-use Rattle.insn_text.proofs.Naming.{Same, is_set_whole, numbers-same, found, when, unless, swap, all_get}
+use Rattle.insn_text.proofs.Naming.{Same, is_set_whole, numbers-same, found, unless, swap}
 
 -- the fields that a name looks at
 unfoldable pub vector_naming_fields : VectorOperation → List Field
@@ -110,7 +112,7 @@ vector_named_by s w line ms ml e =
     ap (λ v. bit_and v s.mask) (sym ml) ∙ swap w line.mask s.mask ∙ ap (λ v. bit_and v line.mask) ms in
     let parts =
     and_parts (bytes_eq (text_at MNEMONICS s.mnemonic) (vector_mnemonic_of line.operation (numbers_in s.value)))
-    (list_all (is_set_whole s.mask) (vector_naming_fields line.operation)) (when _ _ (eq-eqb _ _ common) e) in
+    (list_all (is_set_whole s.mask) (vector_naming_fields line.operation)) (implied _ _ e (eq-eqb _ _ common)) in
     (bytes_eq-Decides (text_at MNEMONICS s.mnemonic) (vector_mnemonic_of line.operation (numbers_in s.value))).0 parts.0
     ∙ vector_name-same line.operation (numbers_in s.value) (numbers_in w)
     (numbers-same s w (vector_naming_fields line.operation) ms parts.1)
@@ -124,4 +126,4 @@ vector_named w index line s listed matches e =
     let f = found (λ x. not x.alias && (bit_and w x.mask == x.value)) is_vector_named SHAPES s all_vectors_named e in
     let p = and_parts (not s.alias) (bit_and w s.mask == s.value) f.0 in
     vector_named_by s w line (eqb-true _ _ p.1) matches
-    (all_get (is_vector_named_by s) VECTOR_LINES index line (unless s.alias _ p.0 f.1) listed)
+    (list_all-get (is_vector_named_by s) VECTOR_LINES index line (unless s.alias _ p.0 f.1) listed)

@@ -1,6 +1,7 @@
 -- Each word that means a vector instruction has a text.
 use Rattle.std.proofs.Common.{◌≡◌, ℕ, Bool, true, bit_and, refl, sym, ◌∙◌}
 use Rattle.std.specs.List.{list_all}
+use Rattle.plain_lemmas.proofs.Lists.{list_all-get}
 use Rattle.bit_ops.specs.Masks.{highest_one}
 use Rattle.sm_types.specs.declared.insn.Insn.{Insn}
 use Rattle.insn_forms.specs.declared.line.Line.{Line}
@@ -14,7 +15,6 @@ use Rattle.sve_table.specs.Conditions.{is_from, is_up_to, fits_of}
 use Rattle.insn_text.specs.declared.shapes.TheConstants.{SHAPES}
 use Rattle.insn_text.specs.Texts.{items_in, items_of, printed_shape}
 use Rattle.insn_text.specs.Rules.{IsPrinted}
-use Rattle.insn_text.proofs.Tables.{all_get}
 use Rattle.insn_text.proofs.Regions.{is_apart, is_inside, free_bit, covers_at, covers, keep_unless, kept, find-kept, covers-printed}
 use Rattle.insn_text.proofs.VectorKnown.{has_size, size_of_word, is_known, has_none, ends_by, vector_ends, vector_never, says_each}
 use Rattle.insn_text.proofs.VectorKnown.{gives_offset}
@@ -42,4 +42,5 @@ vector_row-printed word r m f e =
 pub vector_printed : (word : ℕ) (it : Insn) → Means vector word it → IsPrinted word
 unfolding vector
 vector_printed word it m =
-    vector_row-printed word m.line m.matches m.fits (all_get vector_row_printed VECTOR_LINES m.place m.line vector_rows_printed m.listed)
+    vector_row-printed word m.line m.matches m.fits
+    (list_all-get vector_row_printed VECTOR_LINES m.place m.line vector_rows_printed m.listed)

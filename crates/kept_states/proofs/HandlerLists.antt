@@ -8,6 +8,7 @@ use Rattle.std.proofs.lemmas.Bool.{cases_Bool}
 use Rattle.std.proofs.lemmas.Bool.Decides.{nat_tests}
 use Rattle.std.proofs.lemmas.List.{drop_more, drop_all, append-nil, map_push, append_assoc, length_push}
 use Rattle.std.proofs.lemmas.Option.{same_Some, slice_get_within, get_or_from_slice_get}
+use Rattle.std.proofs.lemmas.List.Elements.{All-push}
 use Rattle.kernel_contexts.specs.Handlers.{is_signal}
 use Rattle.kernel_contexts.specs.HandlerTable.{handlers_of, set_from}
 use Rattle.kernel_contexts.specs.LooseState.{IsHandler, AreHandlers, handler_entry}
@@ -76,13 +77,6 @@ none_set = record { each = λ k d l. absurd (omega arith); ascending = λ i j g 
 pub no_handlers : (list : List Handler) → list ≡ [] → AreHandlers list
 no_handlers list is = subst AreHandlers (sym is) none_set
 
--- what holds of each of a list, and of one more
-all_more : {X : Type 0} (P : X → Type 0) (list : List X) (x : X) → All P list → P x → All P (list ++ x ∷ [])
-all_more P [] x h p zero d l = p
-all_more P [] x h p (suc k) d l = absurd (omega arith)
-all_more P (y ∷ list) x h p zero d l = h 0 d (omega arith)
-all_more P (y ∷ list) x h p (suc k) d l = all_more P list x (λ j e m. h (suc j) e (omega (arith, m))) p k d (omega (arith, l))
-
 -- an element of a list with one more is one of the list, or the last
 last_or_before : {X : Type 0} (list : List X) (x : X) (k : ℕ) (y : X) → slice_get (list ++ x ∷ []) k ≡ Some y
     → (slice_get list k ≡ Some y) ⊎ ((k ≡ length list) × (y ≡ x))
@@ -115,7 +109,7 @@ module _ (list : List Handler) (h : Handler) (good : AreHandlers list) (lower : 
   ]
 
   added_each : All IsHandler (list ++ h ∷ [])
-  added_each = all_more IsHandler list h good.each (record { signal = is; address = set })
+  added_each = All-push IsHandler list h good.each (record { signal = is; address = set })
 
   pub handler_added : AreHandlers (list ++ h ∷ [])
   handler_added = record { each = added_each; ascending = added_rises }
@@ -126,4 +120,4 @@ lower_still list n m l h = λ k d b. let low = h k d b in omega (arith, low, l)
 
 pub lower_added : (list : List Handler) (h : Handler) (n : ℕ) → All (λ g. g.signal < n) list → h.signal ≡ n
     → All (λ g. g.signal < n + 1) (list ++ h ∷ [])
-lower_added list h n lower is = all_more (λ g. g.signal < n + 1) list h (lower_still list n (n + 1) (omega arith) lower) (omega (arith, is))
+lower_added list h n lower is = All-push (λ g. g.signal < n + 1) list h (lower_still list n (n + 1) (omega arith) lower) (omega (arith, is))

@@ -1,6 +1,6 @@
 -- What is kept is one state.
 use Rattle.std.proofs.Common.{◌≡◌, ℕ, zero, suc, ◌+◌, ◌*◌, ◌/◌, ◌%◌, ◌^◌, ◌<◌, ◌≤◌, Bool, true, false, List, [], ◌∷◌, ◌++◌}
-use Rattle.std.proofs.Common.{length, get_or, take, drop, refl, ap, sym, ◌∙◌, subst, arith, All, Option, Some, None, inl, inr}
+use Rattle.std.proofs.Common.{length, get_or, drop, refl, ap, sym, ◌∙◌, subst, arith, All, Option, Some, None, inl, inr}
 use Rattle.std.specs.Prelude.{map, is_some, unwrap_or, nat_lt}
 use Rattle.std.specs.List.{concat, flat_map}
 use Rattle.std.specs.FinMap.{FinMap, find, get, get-entries, same_entries_map, same_map, nat_cmp-IsAntisymmetric}
@@ -8,7 +8,8 @@ use Rattle.std.specs.Cmp.{nat_cmp_total}
 use Rattle.std.specs.Ordering.{nat_cmp, eq_by_cmp}
 use Rattle.std.proofs.lemmas.Bool.{cases_Bool}
 use Rattle.std.proofs.lemmas.Bool.Decides.{nat_tests}
-use Rattle.std.proofs.lemmas.List.{take_at, drop_at}
+use Rattle.std.proofs.lemmas.List.{drop_at}
+use Rattle.plain_lemmas.proofs.Lists.{append_inj_left}
 use Rattle.bit_ops.specs.Sums.{bool_number}
 use Rattle.sm_types.specs.declared.config.Config.{Config}
 use Rattle.sm_types.specs.declared.scalars.Scalars.{Scalars}
@@ -66,10 +67,6 @@ same_scalars s t x sp pc e =
 
 -- ---- registers, one after the other
 
--- two lists that begin with as many, and go on
-same_front : (x y a b : List ℕ) → length x ≡ length y → x ++ a ≡ y ++ b → x ≡ y
-same_front x y a b long e = sym (take_at x a (length x) refl) ∙ ap (take (length x)) e ∙ take_at y b (length x) (sym long)
-
 same_after : (x y a b : List ℕ) → length x ≡ length y → x ++ a ≡ y ++ b → a ≡ b
 same_after x y a b long e = sym (drop_at x a (length x) refl) ∙ ap (drop (length x)) e ∙ drop_at y b (length x) (sym long)
 
@@ -83,7 +80,7 @@ same_rows l [] (y ∷ ys) n f g e = absurd (omega (arith, n))
 same_rows l (x ∷ xs) [] n f g e = absurd (omega (arith, n))
 same_rows l (x ∷ xs) (y ∷ ys) n f g e =
     let long : length x ≡ length y = f 0 (omega arith) ∙ sym (g 0 (omega arith)) in
-    let first = same_front x y (concat xs) (concat ys) long e in
+    let first = append_inj_left x y (concat xs) (concat ys) long e in
     let rest = same_rows l xs ys (omega (arith, n)) (λ k h. f (suc k) (omega (arith, h))) (λ k h. g (suc k) (omega (arith, h)))
     (same_after x y (concat xs) (concat ys) long e) in
     λ i. first i ∷ rest i
@@ -101,7 +98,8 @@ same_predicates l (p ∷ ps) (q ∷ qs) whole n f g e =
     let q_long : length q ≡ l = g 0 (omega arith) in
     let long : length (predicate_bytes p) ≡ length (predicate_bytes q) =
     length-predicate p ∙ ap (λ k. k / 8) (p_long ∙ sym q_long) ∙ sym (length-predicate q) in
-    let bytes = same_front (predicate_bytes p) (predicate_bytes q) (flat_map predicate_bytes ps) (flat_map predicate_bytes qs) long e in
+    let bytes =
+    append_inj_left (predicate_bytes p) (predicate_bytes q) (flat_map predicate_bytes ps) (flat_map predicate_bytes qs) long e in
     let first = one_predicate p q (omega (arith, p_long, whole)) (omega (arith, q_long, whole)) bytes in
     let rest = same_predicates l ps qs whole (omega (arith, n)) (λ k h. f (suc k) (omega (arith, h))) (λ k h. g (suc k) (omega (arith, h)))
     (same_after (predicate_bytes p) (predicate_bytes q) (flat_map predicate_bytes ps) (flat_map predicate_bytes qs) long e) in

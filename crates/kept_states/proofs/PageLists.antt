@@ -4,10 +4,12 @@ use Rattle.std.proofs.Common.{take, All, refl, ap, sym, ◌∙◌, subst, arith,
 use Rattle.std.specs.Prelude.{map, ◌&&◌, T, option_map}
 use Rattle.std.specs.FinMap.{find, get, get-entries, entries, entries_sorted, len, len-entries}
 use Rattle.std.specs.FinMap.Entries.{below_all, is_sorted}
-use Rattle.std.specs.Ordering.{nat_cmp, is_lt, eq_by_cmp}
+use Rattle.std.specs.Ordering.{nat_cmp, is_lt}
 use Rattle.std.proofs.lemmas.Bool.Decides.{nat_tests}
 use Rattle.std.proofs.lemmas.List.{take_more, take_all, map_push, length-map}
 use Rattle.std.proofs.lemmas.Option.{same_Some, slice_get-get_or, slice_get_within, get_or_from_slice_get, slice_get-map}
+use Rattle.std.proofs.lemmas.List.Elements.{All-push}
+use Rattle.plain_lemmas.proofs.Tests.{eq_by_cmp-self, eq_by_cmp-above}
 use Rattle.paged_memory.specs.Memory.{AddressSpace, IsWhole, bytes_from}
 use Rattle.paged_memory.specs.PageList.{IsPageImage, IsPageList, image_entry, HasPage}
 use Rattle.paged_memory.specs.declared.page_list.PageImage.{PageImage}
@@ -43,20 +45,13 @@ keys_rise (x ∷ es) zero (suc j) e f h l a b =
     subst (λ (y : ℕ × ℕ). y.0 < f.0) (same_Some x e a) (above x.0 es j f (fore _ _ h) b)
 keys_rise (x ∷ es) (suc i) (suc j) e f h l a b = keys_rise es i j e f (aft _ _ h) (omega (arith, l)) a b
 
--- an entry is found by its key
-not_key : (k n : ℕ) → k < n → eq_by_cmp nat_cmp n k ≡ false
-not_key k n l = grind (arith, nat_tests)
-
-own_key : (n : ℕ) → eq_by_cmp nat_cmp n n ≡ true
-own_key n = grind (arith, nat_tests)
-
 entry_found : (es : List (ℕ × ℕ)) (i : ℕ) (e : ℕ × ℕ) → T (is_sorted nat_cmp es) → slice_get es i ≡ Some e → find nat_cmp e.0 es ≡ Some e.1
 entry_found [] i e h is = absurd (cc)
 entry_found (x ∷ es) zero e h is =
     subst (λ (y : ℕ × ℕ). find nat_cmp y.0 (x ∷ es) ≡ Some y.1) (same_Some x e is)
-    (ap (λ b. cond b (Some x.1) (find nat_cmp x.0 es)) (own_key x.0))
+    (ap (λ b. cond b (Some x.1) (find nat_cmp x.0 es)) (eq_by_cmp-self x.0))
 entry_found (x ∷ es) (suc i) e h is =
-    ap (λ b. cond b (Some x.1) (find nat_cmp e.0 es)) (not_key x.0 e.0 (above x.0 es i e (fore _ _ h) is))
+    ap (λ b. cond b (Some x.1) (find nat_cmp e.0 es)) (eq_by_cmp-above x.0 e.0 (above x.0 es i e (fore _ _ h) is))
     ∙ entry_found es i e (aft _ _ h) is
 
 -- the page of an entry is there
@@ -83,26 +78,20 @@ pub none_first : (m : AddressSpace) (list : List SharedPage) → list ≡ [] →
 none_first m list is = subst (AreFirst m 0) (sym is)
     (record { each = λ k d l. absurd (omega arith); entries_are = refl; bytes = λ k d l. absurd (omega arith) })
 
-all_more : (P : SharedPage → Type 0) (list : List SharedPage) (x : SharedPage) → All P list → P x → All P (list ++ x ∷ [])
-all_more P [] x h p zero d l = p
-all_more P [] x h p (suc k) d l = absurd (omega arith)
-all_more P (y ∷ list) x h p zero d l = h 0 d (omega arith)
-all_more P (y ∷ list) x h p (suc k) d l = all_more P list x (λ j e b. h (suc j) e (omega (arith, b))) p k d (omega (arith, l))
-
 pub first_more : (m : AddressSpace) (place : ℕ) (list more : List SharedPage) (page : SharedPage) → AreFirst m place list
     → slice_get (entries m.perm) place ≡ Some (entry_of page) → IsPage page → bytes_from m.mem page.address 4096 ≡ bytes_of page
     → more ≡ list ++ page ∷ [] → AreFirst m (place + 1) more
 first_more m place list more page h at good bytes grown =
     let inside = slice_get_within (entries m.perm) place (entry_of page) at in
     subst (AreFirst m (place + 1)) (sym grown) (record {
-      each = all_more IsPage list page h.each good;
+      each = All-push IsPage list page h.each good;
       entries_are =
           map_push entry_of list page
           ∙ ap (λ l. l ++ entry_of page ∷ []) h.entries_are
           ∙ ap (λ e. take place (entries m.perm) ++ e ∷ [])
           (sym (get_or_from_slice_get (entries m.perm) place (entry_of page) (entry_of page) at))
           ∙ sym (take_more (entries m.perm) place (entry_of page) inside);
-      bytes = all_more (λ p. bytes_from m.mem p.address 4096 ≡ bytes_of p) list page h.bytes bytes;
+      bytes = All-push (λ p. bytes_from m.mem p.address 4096 ≡ bytes_of p) list page h.bytes bytes;
     })
 
 -- all of them

@@ -3,6 +3,7 @@ use Rattle.std.specs.Prelude.{◌≡◌, ℕ, ◌*◌, ◌%◌, ◌^◌, ◌<◌
 use Rattle.std.specs.FinMap.{get}
 use Rattle.sm_types.specs.Options.{version_of}
 use Rattle.sm_types.specs.declared.config.Config.{Config}
+use Rattle.sm_types.specs.declared.limits.TheConstants.{JOURNAL_LIMIT, OUTPUT_LIMIT}
 use Rattle.sm_types.specs.declared.version.Version.TheVariants.{One}
 use Rattle.machine_step.specs.Machine.{IsInMode}
 use Rattle.kernel_contexts.specs.HandlerTable.{handlers_of}
@@ -15,12 +16,12 @@ use Rattle.report_text.specs.declared.view.StateView.{StateView}
 -- what is shown is the state of a thread of a run with these options, which has made so many events
 pub record IsOfThread (config : Config) (thread events : ℕ) (view : StateView) : Type 0 where
   pub number : thread < config.threads
-  pub few : events ≤ 262144
+  pub few : events ≤ JOURNAL_LIMIT
   pub depth : view.depth ≤ depth_limit (version_of config)
   pub unmasked : version_of config ≡ One → view.mask ≡ 0
   pub table : length view.handlers.now ≡ 63
   pub signals : AreOfSignals (handlers_of view.handlers.now)
-  pub output : length view.output.now ≤ 1048576
+  pub output : length view.output.now ≤ OUTPUT_LIMIT
   pub lengths : HasLengths config view.bank.now
   pub mode : IsInMode view.bank.now view.machine.now
 

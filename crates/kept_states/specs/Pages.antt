@@ -2,6 +2,7 @@
 use Rattle.std.specs.Prelude.{◌≡◌, ◌≢◌, ℕ, ◌/◌, ◌%◌, ◌<◌, ◌≤◌, List, length, map, All, slice_get, Some}
 use Rattle.std.specs.Arc.{arc_value}
 use Rattle.std.specs.FinMap.{entries}
+use Rattle.sm_types.specs.declared.limits.TheConstants.{PAGE_LIMIT, SHARED_PAGE}
 use Rattle.paged_memory.specs.Memory.{AddressSpace, IsWhole, bytes_from}
 use Rattle.kept_states.specs.declared.pages.SharedPage.{SharedPage}
 
@@ -17,17 +18,17 @@ entry_of page = (page.address / 4096, page.flags)
 -- a sum of execute 1, write 2 and read 4, and it has 4096 bytes
 pub record IsPage (page : SharedPage) : Type 0 where
   pub aligned : page.address % 4096 ≡ 0
-  pub private : page.address ≢ 0x7F0000000000
+  pub private : page.address ≢ SHARED_PAGE
   pub flags : page.flags < 8
   pub full : length (bytes_of page) ≡ 4096
 
--- each is one, their addresses ascend, and there are at most 4096
+-- each is one, their addresses ascend, and there are no more than a checkpoint has
 pub record ArePages (list : List SharedPage) : Type 0 where
   pub each : All IsPage list
   pub ascending :
       (i j : ℕ) (p q : SharedPage) → i < j → slice_get list i ≡ Some p → slice_get list j ≡ Some q
       → p.address < q.address
-  pub few : length list ≤ 4096
+  pub few : length list ≤ PAGE_LIMIT
 
 -- a memory has exactly these pages
 pub record HasShared (m : AddressSpace) (list : List SharedPage) : Type 0 where

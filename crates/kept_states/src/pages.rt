@@ -7,6 +7,7 @@ ghost use Rattle.kept_states.specs.Pages.{bytes_of, ArePages, HasShared};
 ghost use Rattle.kept_states.specs.Listed.{AreSame};
 
 use paged_memory::{PageImage, PageList, PageView, Pages};
+use sm_types::SHARED_PAGE;
 use std::alloc::{AllocError, Global};
 use std::sync::Arc;
 
@@ -18,9 +19,6 @@ pub struct SharedPage {
     pub flags: u8,
     pub bytes: Arc<Vec<u8>>,
 }
-
-/// Where the shared region stands, which is no page of a thread.
-const SHARED_REGION: u64 = 0x7F00_0000_0000;
 
 /// The bytes of the page at that place: those that were kept before, where they are the same, or a copy.
 fn share_bytes(
@@ -74,7 +72,7 @@ pub fn share_pages(
         match pages.page(place) {
             None => unreachable!(),
             Some(page) => {
-                if page.address == SHARED_REGION {
+                if page.address == SHARED_PAGE {
                     return Ok(None);
                 }
                 list.push(share_page(alloc, &page, before, place)?)?;

@@ -2,6 +2,7 @@
 use Rattle.std.proofs.Common.{◌≡◌, ℕ, ◌+◌, ◌≤◌, ◌++◌, List, [], ◌∷◌, take, drop, length, Option, Some, ap, sym, ◌∙◌, arith}
 use Rattle.std.proofs.lemmas.Grind.{common_steps}
 use Rattle.std.proofs.lemmas.List.{take-append-drop, append-nil}
+use Rattle.plain_lemmas.proofs.Lists.{take_length}
 use Rattle.sm_types.specs.declared.stop.Stop.{Stop}
 use Rattle.sm_types.specs.declared.config.Config.{Config}
 use Rattle.sm_types.specs.declared.shared_op.Event.{Event}
@@ -71,14 +72,11 @@ made_nothing old new is = made_events old new [] (is ∙ sym (append-nil old))
 pub grown : (old new events : List Event) → new ≡ old ++ events → new ≡ old ++ made_since old new
 grown old new events is = is ∙ ap (λ (l : List Event). old ++ l) (sym (made_events old new events is))
 
-take_all : (into rest : List ℕ) → take (length into) (into ++ rest) ≡ into
-take_all into rest = grind (arith, common_steps)
-
 -- the bytes before a place stay, and those from it on are new
 pub appended : (whole into before rest : List ℕ) (len old : ℕ) → take old into ≡ take old whole → length into ≡ len
     → take old whole ≡ before → take len (into ++ rest) ≡ before ++ drop old into
 appended whole into before rest len old kept full is =
-    ap (λ n. take n (into ++ rest)) (sym full) ∙ take_all into rest ∙ sym (take-append-drop old into)
+    ap (λ n. take n (into ++ rest)) (sym full) ∙ take_length into rest ∙ sym (take-append-drop old into)
     ∙ ap (λ l. l ++ drop old into) (kept ∙ is)
 
 pub take_before : (before more : List ℕ) (n m : ℕ) → n ≡ length before → n ≤ m → take n (take m before ++ more) ≡ before

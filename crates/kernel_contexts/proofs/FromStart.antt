@@ -23,10 +23,11 @@ still_from_start old new h earlier begun = record { earlier = earlier ∙ h.earl
 few_from_start : (g : GuestThread) → IsFromStart g → g.turns ≤ 64 * g.config.budget
 few_from_start g h = omega (arith, g.turns_within, h.begun)
 
-pub several_from_start : (g : GuestThread) → IsFromStart g → (apart : Bool) (n : ℕ) (old new : State)
-    → GoesApart apart g.config g.number (guest_events g) n old new → GoesApart apart g.config g.number (length g.journal.items) n old new
-several_from_start g start apart n old new h =
-    subst (λ (e : ℕ). GoesApart apart g.config g.number e n old new) (all_events g start) h
+pub several_from_start : (g : GuestThread) → IsFromStart g → (halts : ℕ → ℕ → Bool) (apart : Bool) (n : ℕ) (old new : State)
+    → GoesApart halts apart g.config g.number (guest_events g) n old new
+    → GoesApart halts apart g.config g.number (length g.journal.items) n old new
+several_from_start g start halts apart n old new h =
+    subst (λ (e : ℕ). GoesApart halts apart g.config g.number e n old new) (all_events g start) h
 
 -- how it stands, by the length of its journal
 abbrev pub begun_at : GuestThread → Bank → Stance

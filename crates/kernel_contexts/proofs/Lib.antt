@@ -18,3 +18,4 @@ pub mod FromStart
 pub mod LooseParts
 pub mod Stances
 pub mod Nothing
+pub mod Fetched

@@ -1,7 +1,7 @@
 -- Registers and handlers of plain fields.
 use Rattle.std.proofs.Common.{◌≡◌, ℕ, zero, suc, ◌+◌, ◌*◌, ◌/◌, ◌%◌, ◌^◌, ◌<◌, ◌≤◌, ◌==◌, Bool, true, false, cond, min, List, [], ◌∷◌, ◌++◌, None, inl, inr}
 use Rattle.std.proofs.Common.{length, get_or, take, drop, map, refl, ap, ap₂, sym, ◌∙◌, subst, arith}
-use Rattle.std.proofs.lemmas.Bool.{cases_Bool}
+use Rattle.std.proofs.lemmas.Bool.{cases_Bool, both_ways}
 use Rattle.std.proofs.lemmas.Bool.Decides.{nat_tests}
 use Rattle.std.proofs.lemmas.Grind.{flat_map-append, common_steps}
 use Rattle.std.proofs.Math.Seq.{take-length}
@@ -221,9 +221,6 @@ module _ (size : ℕ) (t : LooseState) (v0 v1 v2 v3 : SveState) (z p f : List �
 
 -- ---- ZA
 
-pub on_off : (on : Bool) → on ≡ true → on ≡ false → ⊥
-on_off on is off = let clash = sym is ∙ off in cc
-
 pub still_zero : (za : ArrayState) (svl : VecLen) → za ≡ zero_array svl → za ≡ zero_array za.svl
 still_zero za svl h = h ∙ ap (λ (l : VecLen). zero_array l) (sym (ap (λ (a : ArrayState). a.svl) h))
 
@@ -231,7 +228,7 @@ still_zero za svl h = h ∙ ap (λ (l : VecLen). zero_array l) (sym (ap (λ (a :
 
 other_key : (k s : ℕ) → is_signal s ≡ true → is_signal k ≡ false → eq_by_cmp nat_cmp k s ≡ false
 other_key k s is other = elim (cases_Bool (eq_by_cmp nat_cmp k s)) [
-  | inl found ↦ let same : s ≡ k = grind (arith, nat_tests) in absurd (on_off (is_signal s) is (ap is_signal same ∙ other))
+  | inl found ↦ let same : s ≡ k = grind (arith, nat_tests) in absurd (both_ways (is_signal s) (ap is_signal same ∙ other) is)
   | inr apart ↦ apart
 ]
 

@@ -1,21 +1,13 @@
 -- Bytes each of which may be read, and the bytes that are read.
 use Rattle.std.proofs.Common.{◌≡◌, ◌≢◌, ℕ, zero, suc, ◌+◌, ◌%◌, ◌^◌, List, Option, Some, None, refl, sym, ◌∙◌}
 use Rattle.std.specs.Prelude.{IsSome}
-use Rattle.std.specs.Option.{option_or}
+use Rattle.plain_lemmas.proofs.Options.{second_none, first_none}
 use Rattle.paged_memory.specs.Memory.{AddressSpace, byte_with, bytes_with, and_byte, unless_there, first_without}
 use Rattle.paged_memory.proofs.Accesses.{first_without-none}
 
 is_there : (a : ℕ) (b : Option ℕ) → unless_there a b ≡ None → IsSome b
 is_there a None h = cc
 is_there a (Some b) h = refl
-
-no_first : (o p : Option ℕ) → option_or o p ≡ None → o ≡ None
-no_first None p h = refl
-no_first (Some x) p h = cc
-
-no_second : (o p : Option ℕ) → option_or o p ≡ None → p ≡ None
-no_second None p h = h
-no_second (Some x) p h = cc
 
 both_there : (o : Option (List ℕ)) (b : Option ℕ) → IsSome o → IsSome b → IsSome (and_byte o b)
 both_there None b h g = cc
@@ -27,8 +19,8 @@ unfolding bytes_with first_without
 all_there need m a zero h = refl
 all_there need m a (suc n) h =
     let byte = byte_with need m ((a + n) % 2 ^ 64) in
-    both_there (bytes_with need m a n) byte (all_there need m a n (no_first (first_without need m a n) _ h))
-    (is_there ((a + n) % 2 ^ 64) byte (no_second (first_without need m a n) _ h))
+    both_there (bytes_with need m a n) byte (all_there need m a n (first_none (first_without need m a n) _ h))
+    (is_there ((a + n) % 2 ^ 64) byte (second_none (first_without need m a n) _ h))
 
 some_is : (o : Option (List ℕ)) → IsSome o → o ≢ None
 some_is None h = cc

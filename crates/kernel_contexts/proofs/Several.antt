@@ -1,7 +1,7 @@
 -- Instructions that are executed before the watched count are turns that go on.
 use Rattle.std.proofs.Common.{◌≡◌, ℕ, zero, suc, min, ◌+◌, ◌-◌, ◌≤◌, ◌<◌, Bool, false, Option, None, List, [], length, ap, sym, ◌∙◌}
-use Rattle.std.proofs.Common.{subst, arith}
-use Rattle.std.specs.Prelude.{◌&&◌}
+use Rattle.std.proofs.Common.{subst, refl, arith}
+use Rattle.std.specs.Prelude.{◌&&◌, Some}
 use Rattle.std.proofs.lemmas.Grind.{common_steps}
 use Rattle.std.proofs.lemmas.List.{append-nil}
 use Rattle.sm_types.specs.declared.config.Config.{Config}
@@ -9,12 +9,13 @@ use Rattle.sm_types.specs.declared.length.VecLen.{VecLen}
 use Rattle.sm_types.specs.declared.shared_op.Event.{Event}
 use Rattle.sm_types.specs.declared.stop.Stop.{Stop}
 use Rattle.paged_memory.specs.Image.{Program}
+use Rattle.paged_memory.specs.Memory.{word_at}
 use Rattle.mem_access.specs.declared.bank.Bank.{Bank}
 use Rattle.shared_region.specs.Tickets.{Refusals}
 use Rattle.machine_step.specs.ProcessorState.{ProcessorState, vector_bytes}
 use Rattle.machine_step.specs.Effect.{Becomes, effect_of}
 use Rattle.machine_step.specs.Needs.{needs_bank, is_call_at, is_calls}
-use Rattle.machine_step.specs.Several.{AreExecuted}
+use Rattle.machine_step.specs.Several.{AreExecuted, halts_at}
 use Rattle.machine_step.proofs.Calls.{call_told}
 use Rattle.kernel_contexts.specs.Owner.{owns, is_owner}
 use Rattle.kernel_contexts.specs.State.{State}
@@ -22,7 +23,7 @@ use Rattle.kernel_contexts.specs.Call.{Goes}
 use Rattle.kernel_contexts.specs.Turn.{turn_of, after_effect}
 use Rattle.kernel_contexts.specs.Watch.{IsWatched}
 use Rattle.kernel_contexts.specs.Needs.{needs_vectors}
-use Rattle.kernel_contexts.specs.Several.{GoesApart, counted_by}
+use Rattle.kernel_contexts.specs.Several.{GoesApart, counted_by, halts_before, never}
 use Rattle.kernel_contexts.specs.Standing.{IsRunOf}
 use Rattle.kernel_contexts.specs.declared.context.Turn.TheVariants.{Ran}
 use Rattle.kernel_contexts.proofs.Apart.{kept_no, needs_executes}
@@ -72,38 +73,55 @@ module _ (config : Config) (thread events watch : ℕ) (s : State) (h : IsWatche
       (no_delivery config t watch here low))
       ∙ kept_no apart (needs_bank before) (is_call_at before) _ kept (sym (call_told (vector_bytes config.vl) before) ∙ ap is_calls e)
 
-  pub executed_goes : (apart : Bool) (n : ℕ) (core : ProcessorState) → s.count + n ≤ watch
-      → AreExecuted apart (vector_bytes config.vl) n s.core core → GoesApart apart config thread events n s (counted_by n s core)
-  executed_goes apart zero core l e =
+  pub executed_goes : (halts : ℕ → ℕ → Bool) (apart : Bool) (n : ℕ) (core : ProcessorState) → s.count + n ≤ watch
+      → AreExecuted halts apart (vector_bytes config.vl) n s.core core
+      → GoesApart halts apart config thread events n s (counted_by n s core)
+  executed_goes halts apart zero core l e =
       let none : s.count + 0 ≡ s.count = omega arith in
       let still : s.turns + 0 ≡ s.turns = omega arith in
       λ i. record s { core = e i; count = none i; turns = still i }
-  executed_goes apart (suc n) core l e = (
+  executed_goes halts apart (suc n) core l e = (
     counted_by n s e.0,
-    executed_goes apart n e.0 (omega (arith, l)) e.1,
+    executed_goes halts apart n e.0 (omega (arith, l)) e.1,
     one_executed n e.0 core l e.2,
     one_unneeded apart n e.0 core l e.2 e.3,
+    e.4,
   )
 
 -- the same with VL of another name, from a core and a state that are known by their parts
-pub executed_as : (apart : Bool) (vl given : VecLen) (n : ℕ) (old new : ProcessorState) → given ≡ vl
-    → AreExecuted apart (vector_bytes vl) n old new → AreExecuted apart (vector_bytes given) n old new
-executed_as apart vl given n old new is h = subst (λ (l : VecLen). AreExecuted apart (vector_bytes l) n old new) (sym is) h
+pub executed_as : (halts : ℕ → ℕ → Bool) (apart : Bool) (vl given : VecLen) (n : ℕ) (old new : ProcessorState) → given ≡ vl
+    → AreExecuted halts apart (vector_bytes vl) n old new → AreExecuted halts apart (vector_bytes given) n old new
+executed_as halts apart vl given n old new is h = subst (λ (l : VecLen). AreExecuted halts apart (vector_bytes l) n old new) (sym is) h
+
+-- nothing to halt before is none at any address
+never_at : (pc : ℕ) (word : Option ℕ) → halts_at never pc word ≡ false
+never_at pc None = refl
+never_at pc (Some word) = refl
+
+never_halts : (s : State) → halts_before never s ≡ false
+never_halts s = never_at s.core.scalars.pc (word_at s.core.memory s.core.scalars.pc)
 
 -- no port is asked
 pub nothing_refused : Refusals
 nothing_refused = record { ends = λ op. ⊥; strays = λ op. ⊥; takes_memory = ⊥ }
 
 -- a run of a program goes on by them
-pub run_goes_by : (apart : Bool) (program : Program) (config : Config) (thread : ℕ) (old new : State) (journal : List Event)
-    (stop : Option Stop) (n : ℕ) → stop ≡ None → IsRunOf program config thread journal old stop
-    → GoesApart apart config thread (length journal) n old new → IsRunOf program config thread journal new stop
-run_goes_by apart program config thread old new journal stop zero runs h goes =
+pub run_goes_by : (halts : ℕ → ℕ → Bool) (apart : Bool) (program : Program) (config : Config) (thread : ℕ) (old new : State)
+    (journal : List Event) (stop : Option Stop) (n : ℕ) → stop ≡ None → IsRunOf program config thread journal old stop
+    → GoesApart halts apart config thread (length journal) n old new → IsRunOf program config thread journal new stop
+run_goes_by halts apart program config thread old new journal stop zero runs h goes =
     subst (λ (s : State). IsRunOf program config thread journal s stop) (sym goes) h
-run_goes_by apart program config thread old new journal stop (suc n) runs h goes =
+run_goes_by halts apart program config thread old new journal stop (suc n) runs h goes =
     run_goes_on program config thread nothing_refused goes.0 new journal journal [] stop stop Ran
-    (run_goes_by apart program config thread old goes.0 journal stop n runs h goes.1) runs (sym (append-nil journal))
+    (run_goes_by halts apart program config thread old goes.0 journal stop n runs h goes.1) runs (sym (append-nil journal))
     (goes.2, runs)
+
+-- where nothing is asked of the words, the turns are the same
+pub halts_let_go : (halts : ℕ → ℕ → Bool) (apart : Bool) (config : Config) (thread events n : ℕ) (old new : State)
+    → GoesApart halts apart config thread events n old new → GoesApart never apart config thread events n old new
+halts_let_go halts apart config thread events zero old new goes = goes
+halts_let_go halts apart config thread events (suc n) old new goes =
+    (goes.0, halts_let_go halts apart config thread events n old goes.0 goes.1, goes.2, goes.3, never_halts goes.0)
 
 -- the thread owns the bank still, or does not own it
 pub owned_on : (bank after : Bank) (thread number : ℕ) (owned : Bool) → after.owner ≡ bank.owner → number ≡ thread

@@ -1,5 +1,5 @@
 -- Signals that are held and open, by their bits, and how many are held.
-use Rattle.std.proofs.Common.{◌≡◌, ◌⊎◌, inl, inr, ℕ, zero, suc, ◌+◌, ◌-◌, ◌/◌, ◌%◌, ◌^◌, ◌<◌, ◌≤◌, ◌==◌, Bool, true, false, cond}
+use Rattle.std.proofs.Common.{◌≡◌, inl, inr, ℕ, zero, suc, ◌+◌, ◌-◌, ◌/◌, ◌%◌, ◌^◌, ◌<◌, ◌≤◌, ◌==◌, Bool, true, false, cond}
 use Rattle.std.proofs.Common.{Some, None, refl, ap, sym, ◌∙◌, arith, bit_and}
 use Rattle.std.specs.Prelude.{min}
 use Rattle.std.specs.Int.{w64, trailing_zeros, bit_at, bit_not}
@@ -9,6 +9,7 @@ use Rattle.std.proofs.Math.Nat.{pow-suc}
 use Rattle.std.proofs.lemmas.Nat.{and_le_r}
 use Rattle.std.proofs.lemmas.Nat.Bits.{bit_at-trailing_zeros, bit_at_above, bit_at_lowest, bit_at-suc, bit_at_and, bit_at-lt}
 use Rattle.std.proofs.lemmas.Bool.Decides.{nat_tests}
+use Rattle.std.proofs.lemmas.Bool.{cases_lt}
 use Rattle.machine_step.specs.ProcessorState.{ProcessorState}
 use Rattle.signal_frames.specs.Return.{bytes_read, unmasked}
 use Rattle.signal_frames.specs.Saved.{saved_masking}
@@ -24,12 +25,9 @@ use Rattle.kernel_contexts.proofs.HandlerTable.{address_or_none, get-with_handle
 
 -- ---- bits of a number
 
-below_or : (n k : ℕ) → (n < k) ⊎ (k ≤ n)
-below_or n k = grind arith
-
 -- a number is no less than one of its bits
 pub at_least : (v k : ℕ) → bit_at v k ≡ 1 → 2 ^ k ≤ v
-at_least v k h = elim (below_or v (2 ^ k)) [
+at_least v k h = elim (cases_lt v (2 ^ k)) [
   | inl under ↦ let none : bit_at v k ≡ 0 = bit_at_above v k k under (omega arith) in absurd (omega (arith, none, h))
   | inr over ↦ over
 ]
@@ -102,7 +100,7 @@ first_signals held h = ap (ones 62) (odd_high held h)
 
 no_more_signals : (held k : ℕ) → bit_at held k ≡ 1 → count_signals (held - 2 ^ k) ≤ count_signals held
 no_more_signals held zero h = omega (arith, first_signals held h)
-no_more_signals held (suc k) h = elim (below_or 62 (suc k)) [
+no_more_signals held (suc k) h = elim (cases_lt 62 (suc k)) [
   | inl past ↦ omega (arith, keep_signals held (suc k) h past)
   | inr within ↦ omega (arith, less_signals held (suc k) h (omega arith) within)
 ]

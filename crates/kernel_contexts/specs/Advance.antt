@@ -6,6 +6,8 @@ use Rattle.shared_region.specs.Tickets.{Refusals}
 use Rattle.paged_memory.specs.PageTable.{KeepsOwned}
 use Rattle.mem_access.specs.declared.bank.Bank.{Bank}
 use Rattle.machine_step.specs.Machine.{IsSameBank}
+use Rattle.machine_step.specs.Several.{HaltsBy}
+use Rattle.machine_step.specs.declared.several.Made.{Made}
 use Rattle.kernel_contexts.specs.Context.{thread_of, journal_of, is_home, held_state, guest_made, made_by}
 use Rattle.kernel_contexts.specs.Context.{owns, needs_bank_on, GoesOrAsks, HasFreePlace}
 use Rattle.kernel_contexts.specs.Context.{IsSameGuest, IsSameThread, IsOn}
@@ -40,15 +42,19 @@ pub record MakesTurn (kept : Bool) (refusals : Refusals) (given : List Event →
   pub budget : new.state.count ≤ new.thread.config.budget
   pub few : new.state.turns ≤ most * new.thread.config.budget
 
--- so many turns, at most so many, each an instruction that is counted and asks nothing; of a thread that is
--- kept off its vectors none reads or writes them
-pub record MakesSeveral (apart : Bool) (most : ℕ) (Same Home : Type 0) (old new : Stance) (n : ℕ)
-    : Type 0 where
-  pub turns : GoesApart apart old.thread.config old.thread.number old.events n old.state new.state
-  pub few : n ≤ most
+-- so many turns, at most so many, each an instruction that is counted and asks nothing, and none that it was
+-- told to halt before; of a thread that is kept off its vectors none reads or writes them. It ended where it
+-- was told to halt: where a word is given, that stands at PC, and it was told to halt before it; where none
+-- is and fewer were made than might be, the next one is none to halt before
+pub record MakesSeveral (halts : ℕ → ℕ → Bool) (apart : Bool) (most : ℕ) (Same Home : Type 0)
+    (old new : Stance) (end : Made) : Type 0 where
+  pub turns :
+      GoesApart halts apart old.thread.config old.thread.number old.events end.count old.state new.state
+  pub few : end.count ≤ most
+  pub halted : HaltsBy halts new.state.core.memory new.state.core.scalars.pc most end
   pub owned : KeepsOwned old.thread.machine.pages new.thread.machine.pages
-  pub count : new.state.count ≡ old.state.count + n
-  pub made : new.state.turns ≡ old.state.turns + n
+  pub count : new.state.count ≡ old.state.count + end.count
+  pub made : new.state.turns ≡ old.state.turns + end.count
   pub stop : new.thread.stop ≡ None
   pub journal : new.thread.journal.items ≡ old.thread.journal.items
   pub events : new.events ≡ old.events
@@ -75,9 +81,10 @@ Advances refusals given old new end =
     MakesTurn false refusals given (journal_of new ≡ journal_of old ++ made_by old new) (IsSameThread old new)
     (is_home new ≡ true) 64 (stance_of old) (stance_of new) end
 
-abbrev pub AdvancesSeveral : ℕ → Context → Context → ℕ → Type 0
-AdvancesSeveral most old new n =
-    MakesSeveral false most (IsSameThread old new) (is_home new ≡ true) (stance_of old) (stance_of new) n
+abbrev pub AdvancesSeveral : (ℕ → ℕ → Bool) → ℕ → Context → Context → Made → Type 0
+AdvancesSeveral halts most old new end =
+    MakesSeveral halts false most (IsSameThread old new) (is_home new ≡ true) (stance_of old) (stance_of new)
+    end
 
 -- on a bank, which the thread owns or not
 abbrev pub AdvancesOn : Refusals → (List Event → Type 0) → Context → Bank → Context → Bank → Turn → Type 0
@@ -85,10 +92,10 @@ AdvancesOn refusals given old before new after end =
     MakesTurn (needs_bank_on old before) refusals given (journal_of new ≡ journal_of old ++ made_by old new)
     (IsSameThread old new) (StaysOn old before new after) 64 (stance_on before old) (stance_on after new) end
 
-abbrev pub AdvancesSeveralOn : ℕ → Context → Bank → Context → Bank → ℕ → Type 0
-AdvancesSeveralOn most old before new after n =
-    MakesSeveral (not (owns before (thread_of old))) most (IsSameThread old new)
-    (StaysOn old before new after) (stance_on before old) (stance_on after new) n
+abbrev pub AdvancesSeveralOn : (ℕ → ℕ → Bool) → ℕ → Context → Bank → Context → Bank → Made → Type 0
+AdvancesSeveralOn halts most old before new after end =
+    MakesSeveral halts (not (owns before (thread_of old))) most (IsSameThread old new)
+    (StaysOn old before new after) (stance_on before old) (stance_on after new) end
 
 -- and of a state that no run vouches for
 abbrev pub AdvancesLoose : Refusals → (List Event → Type 0) → Loose → Loose → Turn → Type 0
@@ -96,6 +103,6 @@ AdvancesLoose refusals given old new end =
     MakesTurn false refusals given (loose_events new ≡ loose_events old + length (loose_made old new))
     (IsSameLoose old new) (Unit {0}) 128 (stance_in old) (stance_in new) end
 
-abbrev pub AdvancesSeveralLoose : ℕ → Loose → Loose → ℕ → Type 0
-AdvancesSeveralLoose most old new n =
-    MakesSeveral false most (IsSameLoose old new) (Unit {0}) (stance_in old) (stance_in new) n
+abbrev pub AdvancesSeveralLoose : (ℕ → ℕ → Bool) → ℕ → Loose → Loose → Made → Type 0
+AdvancesSeveralLoose halts most old new end =
+    MakesSeveral halts false most (IsSameLoose old new) (Unit {0}) (stance_in old) (stance_in new) end

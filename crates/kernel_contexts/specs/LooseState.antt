@@ -7,6 +7,7 @@ use Rattle.std.specs.List.{concat, flat_map}
 use Rattle.std.specs.FinMap.{entries}
 use Rattle.sm_types.specs.Options.{version_of}
 use Rattle.sm_types.specs.declared.config.Config.{Config}
+use Rattle.sm_types.specs.declared.limits.TheConstants.{JOURNAL_LIMIT, OUTPUT_LIMIT}
 use Rattle.sm_types.specs.declared.version.Version.TheVariants.{One}
 use Rattle.paged_memory.specs.Memory.{IsWhole}
 use Rattle.paged_memory.specs.PageList.{IsPageList, image_entry, HasPage}
@@ -56,7 +57,7 @@ pub record AreHandlers (handlers : List Handler) : Type 0 where
 pub record AreLooseNumbers (config : Config) (t : LooseState) : Type 0 where
   pub thread : t.thread < config.threads
   pub count : t.count < config.budget
-  pub events : t.events ≤ 262144
+  pub events : t.events ≤ JOURNAL_LIMIT
   pub depth : t.depth ≤ depth_limit (version_of config)
   pub turns : t.turns ≤ 64 * config.budget
   pub flags : t.nzcv % 2 ^ 28 ≡ 0
@@ -75,7 +76,7 @@ pub record IsLooseState (config : Config) (t : LooseState) : Type 0 where
   pub first_fault : length t.ffr.items ≡ loose_length config t / 8
   pub array : length t.za.items ≡ array_size config t
   pub handlers : AreHandlers t.handlers.items
-  pub output : length t.output.items ≤ 1048576
+  pub output : length t.output.items ≤ OUTPUT_LIMIT
   pub pages : IsPageList t.pages.items
 
 -- signal and address of a handler

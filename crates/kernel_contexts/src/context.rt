@@ -7,7 +7,7 @@ ghost use Rattle.kernel_contexts.specs.Owner.{owns};
 
 use crate::guest::GuestThread;
 use crate::handlers::handler_of;
-use machine_step::Machine;
+use machine_step::{Halts, Machine, Made};
 use mem_access::Bank;
 use paged_memory::Image;
 use shared_region::Port;
@@ -61,7 +61,8 @@ pub fn is_owned(bank: &Bank, thread: u32) -> bool
     }
 }
 
-/// What a run ends with: a context for each guest thread, in order, and the words that they share.
+/// What a run ends with: contexts of its guest threads, and the words that they share. That there is one for
+/// each thread, in order, the runs that give it say.
 #[derive(Drop)]
 pub struct Finished {
     pub contexts: Vec<Context>,
@@ -81,10 +82,11 @@ impl Context {
     ghost use Rattle.kernel_contexts.specs.Advance.{AdvancesSeveral, AdvancesSeveralOn};
     ghost use Rattle.kernel_contexts.specs.SaveArea.{HasLengths};
     ghost use Rattle.mem_access.specs.Bank.{bank_state};
+    ghost use Rattle.paged_memory.specs.PageTable.{owned_count};
     ghost use Rattle.shared_region.specs.Tickets.{IsTicketOf, GivesEvents};
 
-    /// A thread before its first turn, with its pages and the save area of its vectors taken at once.
-    /// `Memory` is want of memory.
+    /// A thread before its first turn, with its pages and the save area of its vectors taken at once; none of
+    /// its pages is owned. `Memory` is want of memory.
     #[tactic(auto, unfolding(mem_access::specs::VectorState::zero_bank))]
     pub fn start(
         alloc: Global,
@@ -99,6 +101,7 @@ impl Context {
         ensures journal { IfOk result (λ c. journal_of c ≡ []) }
         ensures stop { IfOk result (λ c. stop_of c ≡ None) }
         ensures image { IfOk result (λ c. image_of c ≡ image.now) }
+        ensures shared { IfOk result (λ c. owned_count (pages_of c) ≡ 0) }
         ensures home { IfOk result (λ c. is_home c ≡ true) }
     {
         let guest = GuestThread::start(alloc, image, config, thread)?;
@@ -132,17 +135,18 @@ impl Context {
     }
 
     /// Makes turns of a thread that has not stopped, on the context's own save area, `most` at most, and
-    /// tells how many. Each is an instruction that is counted and asks nothing. There are fewer where the
-    /// next turn may be none of these, or where memory may be wanting for it. Owned pages stay owned; which
-    /// come to them, `advance` says. It is laid into its callers, of which one makes few turns at a time.
+    /// tells how many. Each is an instruction that is counted and asks nothing, and none that it is told to
+    /// halt before; if fewer than `most` were made and the next one is, its word is given. There may be fewer
+    /// besides, or none: what the next turn is then, `advance` finds, but it is none to halt before. Owned
+    /// pages stay owned. Inlined.
     #[inline(always)]
-    pub fn advance_several(&mut self, most: u32) -> u32
+    pub fn advance_several<H: Halts>(&mut self, halts: &H, most: u32) -> Made
         requires home { is_home self.old ≡ true }
         requires runs { stop_of self.old ≡ None }
-        ensures { AdvancesSeveral most self.old self.new result }
+        ensures { AdvancesSeveral (H.halts halts.now) most self.old self.new result }
     {
         self.guest
-            .make_several_turns(&mut self.save_area, false, most)
+            .make_several_turns(&mut self.save_area, halts, false, most)
     }
 
     /// Makes one turn on the bank of a core, as `advance` does on the save area. The context is home and its
@@ -171,15 +175,17 @@ impl Context {
 
     /// Makes turns of a thread that has not stopped, as `advance_several` does, on the bank of a core; where
     /// the thread does not own it, none that reads or writes vectors.
-    pub fn advance_several_on(&mut self, bank: &mut Bank, most: u32) -> u32
+    #[inline(never)]
+    pub fn advance_several_on<H: Halts>(&mut self, bank: &mut Bank, halts: &H, most: u32) -> Made
         requires on { IsOn self.old bank.old }
         requires runs { stop_of self.old ≡ None }
-        ensures { AdvancesSeveralOn most self.old bank.old self.new bank.new result }
+        ensures { AdvancesSeveralOn (H.halts halts.now) most self.old bank.old self.new bank.new result }
     {
         if is_owned(bank, self.guest.number) {
-            self.guest.make_many_turns(bank, false, most)
+            self.guest.make_several_turns(bank, halts, false, most)
         } else {
-            self.guest.make_many_turns(&mut self.save_area, true, most)
+            self.guest
+                .make_several_turns(&mut self.save_area, halts, true, most)
         }
     }
 

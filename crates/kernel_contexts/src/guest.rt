@@ -1,10 +1,11 @@
 //! A guest thread as the kernel keeps it, and its turns.
 ghost use Rattle.std.specs.Prelude.{◌≡◌, ◌+◌, ◌*◌, ◌<◌, ◌≤◌, ◌^◌, ◌++◌, vec_len, vec_capacity, length, None};
-ghost use Rattle.std.specs.Prelude.{Some, IfOk, [], false};
+ghost use Rattle.std.specs.Prelude.{Some, IfOk, MatchOption, [], false};
 ghost use Rattle.kernel_contexts.specs.State.{start_scalars};
 ghost use Rattle.kernel_contexts.specs.HandlerTable.{handlers_of};
 ghost use Rattle.sm_types.specs.Options.{version_of};
 ghost use Rattle.sm_types.specs.declared.version.Version.TheVariants.{One};
+ghost use Rattle.sm_types.specs.declared.limits.TheConstants.{JOURNAL_LIMIT, OUTPUT_LIMIT};
 ghost use Rattle.kernel_contexts.specs.Kernel.{depth_limit};
 ghost use Rattle.kernel_contexts.specs.Watch.{IsWatched, AreOfSignals, waiting};
 
@@ -19,11 +20,11 @@ use crate::guest::watch::{watch_after, watch_past};
 use crate::handlers::{Addresses, no_handlers};
 use crate::kernel::depth_limit;
 use crate::kernel_call::RETURN;
-use machine_step::{Decoder, Machine, StepEnd, write_streaming};
+use machine_step::{Decoder, Halts, Machine, Made, StepEnd, write_streaming};
 use mem_access::Bank;
 use paged_memory::{Image, Pages};
 use shared_region::Port;
-use sm_types::{Config, Event, Memory, Scalars, Stop};
+use sm_types::{Config, Event, JOURNAL_LIMIT, Memory, Scalars, Stop};
 use std::alloc::Global;
 
 /// A guest thread: its machine, its options, and what the kernel keeps of it. Its functions take it through
@@ -63,12 +64,9 @@ pub struct GuestThread {
     ghost unmasked_at_first: { version_of config ≡ One → mask ≡ 0 },
     ghost depth_within: { depth ≤ depth_limit (version_of config) },
     ghost within_budget: { count ≤ config.budget },
-    ghost output_within: { vec_len output ≤ 1048576 },
-    ghost journal_within: { earlier + vec_len journal ≤ 262144 },
+    ghost output_within: { vec_len output ≤ OUTPUT_LIMIT },
+    ghost journal_within: { earlier + vec_len journal ≤ JOURNAL_LIMIT },
 }
-
-/// The events that a journal may hold.
-pub const JOURNAL_LIMIT: usize = 262_144;
 
 /// The registers of a thread before its first turn.
 #[tactic(auto, unfolding(crate::specs::State::start_scalars))]
@@ -108,8 +106,9 @@ impl GuestThread {
     ghost use Rattle.kernel_contexts.specs.Context.{Grows, HasFreePlace, GoesOrAsks};
     ghost use Rattle.kernel_contexts.specs.Wanting.{TurnWants, InstructionWants};
     ghost use Rattle.kernel_contexts.specs.Advance.{AdvancesGuest};
-    ghost use Rattle.paged_memory.specs.PageTable.{KeepsOwned};
+    ghost use Rattle.paged_memory.specs.PageTable.{KeepsOwned, owned_count};
     ghost use Rattle.kernel_contexts.specs.Owned.{TurnOwns, turn_writes, instruction_writes};
+    ghost use Rattle.machine_step.specs.Several.{HaltsAt, HaltsBy, halts_in};
     ghost use Rattle.machine_step.specs.Step.{events_of};
     ghost use Rattle.shared_region.specs.Tickets.{IsTicketOf, GivesEvents};
 
@@ -129,6 +128,7 @@ impl GuestThread {
         ensures number { IfOk result (λ g. g.number ≡ number) }
         ensures journal { IfOk result (λ g. g.journal.items ≡ []) }
         ensures stop { IfOk result (λ g. g.stop ≡ None) }
+        ensures shared { IfOk result (λ g. owned_count g.machine.pages ≡ 0) }
         ensures whole { IfOk result IsFromStart }
     {
         let pages = Pages::from_image(alloc, image)?;
@@ -195,7 +195,7 @@ impl GuestThread {
 
     /// Makes one turn of a thread that has not stopped. Up to the watched count it is an instruction. Where
     /// `apart` says that the thread is kept off its vectors, a turn that reads or writes them is not made,
-    /// and the answer is `NeedsBank`. It is laid into the loop that makes turns, where its answer needs no
+    /// and the answer is `NeedsBank`. Inlined into the loop that makes turns, where its answer needs no
     /// place in memory.
     #[inline(always)]
     fn make_turn<P: Port>(
@@ -233,16 +233,27 @@ impl GuestThread {
 
     /// Makes turns of a thread that has not stopped, `most` at most, and tells how many: instructions that
     /// are executed at once, up to the watched count, at which alone something else may be due; where `apart`
-    /// says that the thread is kept off its vectors, none that reads or writes them. Owned pages stay owned.
-    /// It is laid into its callers, of which one makes few turns at a time.
+    /// says that the thread is kept off its vectors, none that reads or writes them; and none that it is told
+    /// to halt before. If it gives a word, that is the next instruction's, and it is told to halt before it;
+    /// if it made fewer than `most` and gives none, the next one is none to halt before. Owned pages stay
+    /// owned. Inlined: the loop is in its callers alone.
     #[inline(always)]
-    pub fn make_several_turns(&mut self, bank: &mut Bank, apart: bool, most: u32) -> u32
+    pub fn make_several_turns<H: Halts>(
+        &mut self,
+        bank: &mut Bank,
+        halts: &H,
+        apart: bool,
+        most: u32,
+    ) -> Made
         requires { IsFit self.old.config self.old.machine bank.old }
-        ensures turns { GoesApart apart self.old.config self.old.number (guest_events self.old) result
-            (held_state self.old bank.old) (held_state self.new bank.new) }
-        ensures few { result ≤ most }
-        ensures count { self.new.count ≡ self.old.count + result }
-        ensures made { self.new.turns ≡ self.old.turns + result }
+        ensures turns { GoesApart (H.halts halts.now) apart self.old.config self.old.number
+            (guest_events self.old) result.count (held_state self.old bank.old)
+            (held_state self.new bank.new) }
+        ensures few { result.count ≤ most }
+        ensures halted { HaltsBy (H.halts halts.now) self.new.machine.pages.memory
+            self.new.machine.scalars.pc most result }
+        ensures count { self.new.count ≡ self.old.count + result.count }
+        ensures made { self.new.turns ≡ self.old.turns + result.count }
         ensures owned { KeepsOwned self.old.machine.pages self.new.machine.pages }
         ensures back { ComesBack self.new.config self.new.machine bank.old bank.new }
         ensures stop { self.new.stop ≡ self.old.stop }
@@ -250,28 +261,52 @@ impl GuestThread {
     {
         let quiet = self.watch - self.count;
         let decoder = &mut self.decoder;
-        let most = most.min(quiet);
-        let made = self.machine.step_several(decoder, bank, apart, most);
-        self.count_turns(made);
-        made
+        let few = most.min(quiet);
+        let made = self.machine.step_several(decoder, bank, halts, apart, few);
+        self.count_turns(made.count);
+        let halt = self.halt_after(halts, made, few, most);
+        Made {
+            count: made.count,
+            halt,
+        }
     }
 
-    /// The same as a call of its own, for a thread that makes many turns at a time and may have the bank of a
-    /// core.
-    #[inline(never)]
-    pub fn make_many_turns(&mut self, bank: &mut Bank, apart: bool, most: u32) -> u32
-        requires { IsFit self.old.config self.old.machine bank.old }
-        ensures turns { GoesApart apart self.old.config self.old.number (guest_events self.old) result
-            (held_state self.old bank.old) (held_state self.new bank.new) }
-        ensures few { result ≤ most }
-        ensures count { self.new.count ≡ self.old.count + result }
-        ensures made { self.new.turns ≡ self.old.turns + result }
-        ensures owned { KeepsOwned self.old.machine.pages self.new.machine.pages }
-        ensures back { ComesBack self.new.config self.new.machine bank.old bank.new }
-        ensures stop { self.new.stop ≡ self.old.stop }
-        ensures same { IsQuietGuest self.old self.new }
+    /// The word at PC, where it is one to halt before, after turns of which `few` might be made, where up to
+    /// `most` were wanted.
+    #[inline(always)]
+    fn halt_after<H: Halts>(&self, halts: &H, made: Made, few: u32, most: u32) -> Option<u32>
+        requires { HaltsBy (H.halts halts.now) self.now.machine.pages.memory self.now.machine.scalars.pc few
+            made }
+        ensures { MatchOption result (made.count < most
+            → halts_in (H.halts halts.now) self.now.machine.pages.memory self.now.machine.scalars.pc ≡ false)
+            (λ word. HaltsAt (H.halts halts.now) self.now.machine.pages.memory self.now.machine.scalars.pc
+            word) }
     {
-        self.make_several_turns(bank, apart, most)
+        if made.count < few || few == most {
+            made.halt
+        } else {
+            self.word_to_halt_before(halts)
+        }
+    }
+
+    /// The word at PC, where it is one to halt before.
+    fn word_to_halt_before<H: Halts>(&self, halts: &H) -> Option<u32>
+        ensures { MatchOption result
+            (halts_in (H.halts halts.now) self.now.machine.pages.memory self.now.machine.scalars.pc ≡ false)
+            (λ word. HaltsAt (H.halts halts.now) self.now.machine.pages.memory self.now.machine.scalars.pc
+            word) }
+    {
+        let pc = self.machine.scalars.pc;
+        match self.machine.pages.fetch(pc) {
+            Some(word) => {
+                if halts.halts(pc, word) {
+                    Some(word)
+                } else {
+                    None
+                }
+            }
+            None => None,
+        }
     }
 
     /// Counts instructions and their turns, up to the watched count.
@@ -422,7 +457,7 @@ impl GuestThread {
         if self.journal.reserve(1).is_err() {
             return self.lack(apart);
         }
-        let room = self.events() < JOURNAL_LIMIT;
+        let room = self.events() < JOURNAL_LIMIT as usize;
         let decoder = &mut self.decoder;
         match self
             .machine
@@ -497,7 +532,8 @@ impl GuestThread {
     fn go_on(&mut self, event: Option<Event>) -> Turn
         requires count { self.old.count < self.old.config.budget }
         requires room { vec_len self.old.journal < vec_capacity self.old.journal }
-        requires within { self.old.earlier + vec_len self.old.journal + length (events_of event) ≤ 262144 }
+        requires within { self.old.earlier + vec_len self.old.journal + length (events_of event)
+            ≤ JOURNAL_LIMIT }
         ensures answer { result ≡ Turn.Ran }
         ensures state { bare_state self.new ≡ counted (bare_state self.old) (bare_state self.old).core }
         ensures machine { self.new.machine ≡ self.old.machine }

@@ -1,5 +1,6 @@
 //! The state of a guest thread that no run vouches for, and its turns.
 ghost use Rattle.std.specs.Prelude.{◌≡◌, ◌≤◌, length, None, IfOk, true};
+ghost use Rattle.sm_types.specs.declared.limits.TheConstants.{JOURNAL_LIMIT};
 ghost use Rattle.kernel_contexts.specs.SaveArea.{IsSaveArea};
 
 use crate::context::Turn;
@@ -7,7 +8,7 @@ use crate::guest::GuestThread;
 use crate::handlers::handler_of;
 use crate::loose_bank::bank_of;
 use crate::loose_state::LooseState;
-use machine_step::Machine;
+use machine_step::{Halts, Machine, Made};
 use mem_access::Bank;
 use shared_region::Port;
 use sm_types::{Config, Memory};
@@ -59,12 +60,14 @@ impl Loose {
     }
 
     /// Makes turns of a thread that has not stopped, `most` at most, and tells how many, as
-    /// `Context::advance_several` does: each is an instruction that is counted and asks nothing.
-    pub fn advance_several(&mut self, most: u32) -> u32
+    /// `Context::advance_several` does: each is an instruction that is counted and asks nothing, and none that
+    /// it is told to halt before.
+    pub fn advance_several<H: Halts>(&mut self, halts: &H, most: u32) -> Made
         requires { loose_stop self.old ≡ None }
-        ensures { AdvancesSeveralLoose most self.old self.new result }
+        ensures { AdvancesSeveralLoose (H.halts halts.now) most self.old self.new result }
     {
-        self.guest.make_several_turns(&mut self.bank, false, most)
+        self.guest
+            .make_several_turns(&mut self.bank, halts, false, most)
     }
 
     /// The options of the thread's run.
@@ -84,7 +87,7 @@ impl Loose {
     /// The events that the thread used so far, from the start of its journal.
     pub fn events(&self) -> u32
         ensures value { result ≡ loose_events self.now }
-        ensures within { result ≤ 262144 }
+        ensures within { result ≤ JOURNAL_LIMIT }
     {
         self.guest.events() as u32
     }

@@ -1,9 +1,10 @@
 -- What holds of memory while __arm_za_disable runs, whatever becomes of memory outside an area.
-use Rattle.std.proofs.Common.{◌≡◌, ◌⊎◌, inl, inr, ℕ, suc, ◌+◌, ◌-◌, ◌*◌, ◌/◌, ◌%◌, ◌^◌, ◌<◌, ◌≤◌, Bool, true, List, [], length}
+use Rattle.std.proofs.Common.{◌≡◌, inl, inr, ℕ, suc, ◌+◌, ◌-◌, ◌*◌, ◌/◌, ◌%◌, ◌^◌, ◌<◌, ◌≤◌, Bool, true, List, [], length}
 use Rattle.std.proofs.Common.{Option, Some, None, refl, ap, sym, ◌∙◌, arith, subst}
 use Rattle.std.specs.Prelude.{IsSome, slice_index_or}
 use Rattle.std.specs.FinMap.{get}
 use Rattle.std.proofs.lemmas.Nat.{row_fits}
+use Rattle.plain_lemmas.proofs.Numbers.{cases_lt_suc}
 use Rattle.paged_memory.specs.Memory.{AddressSpace, byte_with, bytes_with, first_without}
 use Rattle.mem_access.specs.Runs.{with_bytes, first_shared}
 use Rattle.mem_access.proofs.ReadBack.{read_back}
@@ -17,9 +18,6 @@ use Rattle.lazy_saving.proofs.Steps.{Fetches}
 use Rattle.lazy_saving.proofs.Pieces.{piece_of, no_common}
 use Rattle.lazy_saving.proofs.Lawful.{byte_same, bytes_same, without_same, words_same}
 use Rattle.lazy_saving.proofs.Cases.{fetches_of}
-
-last_or : (j i : ℕ) → j < suc i → (j ≡ i) ⊎ (j < i)
-last_or j i lt = grind arith
 
 module _ (area : ℕ → Bool) (first : AddressSpace) (a wide n : ℕ) (za : List (List ℕ)) where
   -- after i slices: the area outside the buffer and the permissions are as at first, the buffer can be
@@ -98,7 +96,7 @@ module _ (area : ℕ → Bool) (first : AddressSpace) (a wide n : ℕ) (za : Lis
           perm = f.perm;
           writable = access_kept 2 m (piece_of a wide i) row a (n * wide) f.writable;
           readable = access_kept 4 m (piece_of a wide i) row a (n * wide) f.readable;
-          pieces = λ j l. elim (last_or j i l) [
+          pieces = λ j l. elim (cases_lt_suc j i l) [
             | inl e ↦
                 subst (λ k. bytes_with 4 (with_bytes m (piece_of a wide i) row) (piece_of a wide k) wide ≡ Some (slice_index_or za k []))
                 (sym e)

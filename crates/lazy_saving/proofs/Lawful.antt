@@ -5,10 +5,10 @@ use Rattle.std.specs.Prelude.{IsSome, is_some, option_map, slice_index_or, nat_l
 use Rattle.std.specs.FinMap.{get}
 use Rattle.std.proofs.lemmas.Option.{slice_get_within}
 use Rattle.std.proofs.lemmas.Bool.Decides.{nat_tests}
+use Rattle.plain_lemmas.proofs.Options.{neither_some}
 use Rattle.sm_types.specs.Bytes.{little_number}
 use Rattle.paged_memory.specs.Memory.{AddressSpace, IsWhole, byte_with, bytes_with, and_byte, permits, permitted, word_at, first_without}
 use Rattle.paged_memory.specs.Memory.{unless_there, run_of}
-use Rattle.paged_memory.proofs.Ready.{neither}
 use Rattle.sve_access.specs.After.{read_bytes}
 use Rattle.machine_step.specs.ProcessorState.{ProcessorState}
 use Rattle.sm_types.specs.Routines.{disable_words, restore_words, tail_words}
@@ -44,7 +44,7 @@ pub without_same : (need : ℕ) (m n : AddressSpace) (c k : ℕ)
 unfolding first_without
 without_same need m n c zero f h = refl
 without_same need m n c (suc k) f h =
-    let parts = neither (first_without need m c k) (unless_there ((c + k) % 2 ^ 64) (byte_with need m ((c + k) % 2 ^ 64))) h in
+    let parts = neither_some (first_without need m c k) (unless_there ((c + k) % 2 ^ 64) (byte_with need m ((c + k) % 2 ^ 64))) h in
     rw (
       without_same need m n c k (λ i l. f i (omega (arith, l))) parts.0,
       there_or ((c + k) % 2 ^ 64) (byte_with need m ((c + k) % 2 ^ 64)) (byte_with need n ((c + k) % 2 ^ 64)) (f k (omega arith)) parts.1,

@@ -1,9 +1,10 @@
 -- ZA after some slices are loaded.
-use Rattle.std.proofs.Common.{◌≡◌, ◌≢◌, ◌⊎◌, inl, inr, ℕ, zero, suc, ◌+◌, ◌-◌, ◌*◌, ◌<◌, ◌≤◌}
+use Rattle.std.proofs.Common.{◌≡◌, ◌≢◌, inl, inr, ℕ, zero, suc, ◌+◌, ◌-◌, ◌*◌, ◌<◌, ◌≤◌}
 use Rattle.std.proofs.Common.{List, [], length, None, refl, ap, sym, ◌∙◌, arith}
 use Rattle.std.specs.Prelude.{slice_index_or, slice_set}
 use Rattle.std.proofs.lemmas.List.{length-set, get_or-set_same, get_or-set_other}
 use Rattle.std.proofs.lemmas.Nat.{row_fits}
+use Rattle.plain_lemmas.proofs.Numbers.{cases_lt_suc}
 use Rattle.paged_memory.specs.Memory.{AddressSpace, first_without, run_of}
 use Rattle.mem_access.specs.Runs.{first_shared}
 use Rattle.sve_access.specs.After.{read_bytes}
@@ -23,9 +24,6 @@ piece_private a size n i l h =
     let room = row_fits i size n size l (omega arith) in
     let e : i * size + (size + (n * size - i * size - size)) ≡ n * size = omega (arith, room) in
     shared_part a (i * size) size (n * size - i * size - size) (ap (first_shared a) e ∙ h)
-
-before_or_last : (i j : ℕ) → i < suc j → (i ≡ j) ⊎ (i < j)
-before_or_last i j lt = grind arith
 
 module _ (m : AddressSpace) (a size : ℕ) (za : List (List ℕ)) where
   -- ZA after i slices
@@ -60,7 +58,7 @@ module _ (m : AddressSpace) (a size : ℕ) (za : List (List ℕ)) where
       → slice_index_or (loaded j) i [] ≡ read_bytes m (run_of (piece_of a size i) size)
   unfolding loaded
   slice_there zero i lt l = absurd (omega (arith, lt))
-  slice_there (suc j) i lt l = elim (before_or_last i j lt) [
+  slice_there (suc j) i lt l = elim (cases_lt_suc i j lt) [
     | inl e ↦
         let long = length_loaded j in
         ap (λ k. slice_index_or (slice_set (loaded j) j (read_bytes m (run_of (piece_of a size j) size))) k []) e

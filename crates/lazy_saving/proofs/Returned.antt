@@ -3,8 +3,7 @@ use Rattle.std.proofs.Common.{◌≡◌, inl, inr, ℕ, suc, ◌+◌, ◌*◌, �
 use Rattle.std.proofs.Common.{List, [], length, replicate, Option, None, refl, ap, ap₂, sym, ◌∙◌, arith, subst, eqb-true}
 use Rattle.std.specs.Prelude.{slice_index, slice_index_or, nat_le, unwrap_or, IsSome}
 use Rattle.std.specs.FinMap.{get}
-use Rattle.std.proofs.lemmas.Bool.{cases_Bool}
-use Rattle.std.proofs.lemmas.Bool.Decides.{nat_tests}
+use Rattle.std.proofs.lemmas.Bool.{cases_Bool, leb-false, leb-true}
 use Rattle.std.proofs.lemmas.List.{length-replicate, get_or-replicate}
 use Rattle.std.proofs.lemmas.Nat.{row_fits}
 use Rattle.paged_memory.specs.Memory.{AddressSpace, byte_with, first_without, run_of}
@@ -35,12 +34,6 @@ use Rattle.lazy_saving.proofs.Kept.{given_up_kept}
 use Rattle.lazy_saving.proofs.Interleaved.{Leads, In, IsKept, over, both_lead, so_many_lead}
 use Rattle.lazy_saving.proofs.Restoring as restore
 use Rattle.lazy_saving.proofs.Tail as tail
-
-at_least : (n i : ℕ) → nat_le n i ≡ true → n ≤ i
-at_least n i e = grind (arith, nat_tests)
-
-below : (n i : ℕ) → nat_le n i ≡ false → i < n
-below n i e = grind (arith, nat_tests)
 
 module _ (vl : ℕ) (area : ℕ → Bool) (p : Places) (r : ProcessorState) (bytes : List ℕ) (h : IsBack p r bytes) (w : IsWhole r)
     (covers : Covers area p (length r.bank.za) (x_of r.scalars 19) bytes) where
@@ -343,12 +336,12 @@ module _ (vl : ℕ) (area : ℕ → Bool) (p : Places) (r : ProcessorState) (byt
         count = length_loaded r.memory a wide' on.bank.za n ∙ wide_is;
         slices = λ i lt. elim (cases_Bool (nat_le n i)) [
           | inl past_all ↦
-              slice_stays r.memory a wide' on.bank.za n i (at_least n i past_all)
+              slice_stays r.memory a wide' on.bank.za n i (leb-true n i past_all)
               ∙ ap (λ za. slice_index_or za i []) zeros ∙ get_or-replicate wide i (replicate wide 0) [] lt
               ∙ sym (choice i true past_all)
           | inr before ↦
-              slice_there r.memory a wide' on.bank.za n i (below n i before) few
-              ∙ ap (read_bytes r.memory) (run_low i (below n i before)) ∙ sym (choice i false before)
+              slice_there r.memory a wide' on.bank.za n i (leb-false n i before) few
+              ∙ ap (read_bytes r.memory) (run_low i (leb-false n i before)) ∙ sym (choice i false before)
         ];
       }
 

@@ -3,6 +3,7 @@ use Rattle.std.proofs.Common.{◌≡◌, ℕ, suc, ◌+◌, ◌-◌, ◌<◌, �
 use Rattle.std.proofs.Common.{Some, None, nat_lt, refl, sym, ap, ◌∙◌, arith, length-drop}
 use Rattle.std.proofs.lemmas.Bool.Decides.{nat_tests}
 use Rattle.std.proofs.lemmas.List.{take_all}
+use Rattle.std.proofs.lemmas.Option.{same_Some}
 use Rattle.std.specs.List.{prefix_len, position}
 use Rattle.std.specs.Prelude.{option_map}
 use Rattle.line_reader.specs.Fields.{ended}
@@ -53,13 +54,10 @@ one_word (b ∷ bs) l = word_cons b bs ∙ (
       | false ↦ λ l. ap (onto_first b) (one_word bs (less k (length bs) l))
     ] l)
 
-some_is : (a b : ℕ) → ◌≡◌ {A = Option ℕ} (Some a) (Some b) → a ≡ b
-some_is a b e = cc
-
 -- a place that was found
 found_at : (k n a : ℕ) → ◌≡◌ {A = Option ℕ} (Some a) (cond (nat_lt k n) (Some k) None) → (a ≡ k) × (k < n)
 found_at k n a e = elim (nat_lt k n) as (λ b. nat_lt k n ≡ b → ◌≡◌ {A = Option ℕ} (Some a) (cond b (Some k) None) → (a ≡ k) × (k < n)) [
-  | true ↦ λ is h. (some_is a k h, grind (arith, nat_tests))
+  | true ↦ λ is h. (same_Some a k h, grind (arith, nat_tests))
   | false ↦ λ is h. cc
 ] refl e
 

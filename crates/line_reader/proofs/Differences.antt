@@ -4,6 +4,8 @@ use Rattle.std.proofs.Common.{Some, None}
 use Rattle.std.specs.List.{concat}
 use Rattle.std.specs.Str.{bytes_eq}
 use Rattle.std.proofs.lemmas.Slice.Eq.{bytes_eq-Decides}
+use Rattle.std.proofs.lemmas.List.{nil_from_length}
+use Rattle.plain_lemmas.proofs.Lists.{bytes_eq-self}
 use Rattle.line_reader.specs.Difference.{first_difference}
 use Rattle.line_reader.specs.Lines.{lines_of, onto_first, with_first}
 
@@ -11,13 +13,6 @@ use Rattle.line_reader.specs.Lines.{lines_of, onto_first, with_first}
 pub record IsCompared (first second : List ℕ) (line : ℕ) (left right : List ℕ) : Type 0 where
   pub so_far : first_difference 0 (lines_of first) (lines_of second) ≡ first_difference line (lines_of left) (lines_of right)
   pub counted : line + length left ≤ length first
-
-none_of : (a b : List ℕ) → length a ≡ 0 → a ≡ []
-none_of [] b e = refl
-none_of (x ∷ xs) b e = cc
-
-same_bytes : (a : List ℕ) → bytes_eq a a ≡ true
-same_bytes a = (bytes_eq-Decides a a).1 refl
 
 other_bytes : (a b : List ℕ) → a ≢ b → bytes_eq a b ≡ false
 other_bytes a b d = elim (bytes_eq a b) as (λ t. bytes_eq a b ≡ t → t ≡ false) [
@@ -30,7 +25,7 @@ same_line : (line : ℕ) (a : List ℕ) (more others : List (List ℕ)) → (len
     → first_difference line (with_first a more) (with_first a others) ≡ first_difference (line + 1) more others
 unfolding first_difference
 same_line line [] more others some = absurd (some refl)
-same_line line (x ∷ xs) more others some = rw (same_bytes (x ∷ xs)) refl
+same_line line (x ∷ xs) more others some = rw (bytes_eq-self (x ∷ xs)) refl
 
 other_line : (line : ℕ) (a b : List ℕ) (more others : List (List ℕ)) → a ≢ b → (length a ≡ 0 → more ≡ []) → (length b ≡ 0 → others ≡ [])
     → first_difference line (with_first a more) (with_first b others) ≡ Some (record { line = line; first = a; second = b })
@@ -70,7 +65,7 @@ module _ (first second : List ℕ) (line : ℕ) (left right a b more others : Li
       → first_difference 0 (lines_of first) (lines_of second) ≡ None
   unfolding first_difference
   ends_here same none whole whole_too =
-      let empty : a ≡ [] = none_of a b none in
+      let empty : a ≡ [] = nil_from_length a none in
       let empty_too : b ≡ [] = sym same ∙ empty in
       here ∙ ap (λ l. first_difference line (with_first l (lines_of more)) (with_first b (lines_of others))) empty
       ∙ ap (λ l. first_difference line (lines_of more) (with_first l (lines_of others))) empty_too

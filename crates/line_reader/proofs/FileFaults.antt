@@ -2,6 +2,7 @@
 use Rattle.std.proofs.Common.{◌≡◌, ℕ, inl, inr, true, false, cond, nat_lt, List, [], ◌∷◌, ◌++◌, length, Option, Result, Ok, Err}
 use Rattle.std.proofs.Common.{refl, sym, ap, ◌∙◌, arith, lt-ltb}
 use Rattle.std.proofs.lemmas.Bool.Decides.{nat_tests}
+use Rattle.plain_lemmas.proofs.Options.{same_Err}
 use Rattle.line_reader.specs.Lines.{line_text, words_in, is_text}
 use Rattle.line_reader.specs.Phrases.{Phrase}
 use Rattle.line_reader.specs.File.{Fault, NumberedLine, Say, file_lines, line_fault, or_fault, line_said, onto_others, all_said, file_in}
@@ -10,9 +11,6 @@ use Rattle.line_reader.specs.declared.text_fault.TextKind.{TextKind}
 use Rattle.line_reader.specs.declared.text_fault.TextKind.TheVariants.{TooLong, NotText}
 use Rattle.line_reader.proofs.Slots.{one_first}
 use Rattle.line_reader.proofs.Files.{IsReadingOf, line_says, line_read, not_too_long}
-
-same_fault : {A : Type 0} (f g : Fault) → ◌≡◌ {A = Result A Fault} (Err f) (Err g) → f ≡ g
-same_fault f g e = cc
 
 -- a fault by its line and its kind
 fault_by : (line : ℕ) (k : TextKind) (f : Fault) → line ≡ f.line → k ≡ f.kind → ◌≡◌ {A = Fault} (record { line = line; kind = k }) f
@@ -66,7 +64,7 @@ module _ {A : Type 0} (says : Phrase A) (IsLine : List ℕ → A → Type 0) (re
       → or_fault at said ≡ Err f → (f.line ≡ at.number) × IsWrongWith after at.line f.kind
   wrong_words at (Ok a) f is e = cc
   wrong_words at (Err j) f is e =
-      let same : line_fault at j ≡ f = same_fault {A = A} (line_fault at j) f e in
+      let same : line_fault at j ≡ f = same_Err {A = A} (line_fault at j) f e in
       rw (sym same) (refl, wrong_kind at.line j (faults (words_in (line_text at.line)) j is))
 
   wrong_line : (at : NumberedLine) (f : Fault) → line_said says at ≡ Err f → (f.line ≡ at.number) × IsWrongWith after at.line f.kind
@@ -87,7 +85,7 @@ module _ {A : Type 0} (says : Phrase A) (IsLine : List ℕ → A → Type 0) (re
       elim (line_said says it) as (λ said. line_said says it ≡ said
       → onto_others said (all_said says lines) ≡ Err f → IsLineFault IsLine after (it ∷ lines) f) [
         | Err g ↦ λ is h. (
-            let here : line_said says it ≡ Err f = is ∙ ap (λ x. Err x) (same_fault {A = List A} g f h) in
+            let here : line_said says it ≡ Err f = is ∙ ap (λ x. Err x) (same_Err {A = List A} g f h) in
             let wrong = wrong_line it f here in
             record {
               earlier = [];
@@ -138,7 +136,7 @@ module _ {A : Type 0} (says : Phrase A) (IsLine : List ℕ → A → Type 0) (re
       → cond b (Err (record { line = 0; kind = TooLong })) (all_said says (file_lines bytes)) ≡ Err fault
       → IsFileFault IsLine after bytes fault) [
         | true ↦ λ is h. (
-            let same = same_fault {A = List A} (record { line = 0; kind = TooLong }) fault h in
+            let same = same_Err {A = List A} (record { line = 0; kind = TooLong }) fault h in
             inl (record {
               exceeds = grind (arith, nat_tests);
               number = ap (λ (f : Fault). f.line) (sym same);

@@ -3,6 +3,8 @@ use Rattle.std.proofs.Common.{◌≡◌, ℕ, zero, suc, ◌^◌, ◌<◌, ◌�
 use Rattle.std.proofs.Common.{Option, Some, None, Result, Ok, Err, refl, sym, ap, ◌∙◌, arith}
 use Rattle.std.specs.Prelude.{nat_le, ◌&&◌, slice_get, is_some, option_and_then, option_map}
 use Rattle.std.proofs.lemmas.Bool.Decides.{nat_tests}
+use Rattle.std.proofs.lemmas.Option.{same_Some}
+use Rattle.plain_lemmas.proofs.Options.{same_Err, none_not_some}
 use Rattle.line_reader.specs.Numbers.{is_decimal, decimal_value, decimal_number, number_below, if_fits, if_below}
 use Rattle.line_reader.specs.Phrases.{Phrase, and_then, said_or, first_word, field, number_of, ended}
 use Rattle.line_reader.specs.Places.{Slot, is_number, first_fault, slot_fault, rest_fault, word_fault, IsFirst}
@@ -25,12 +27,6 @@ past_one : (wrong : ℕ → Option TextKind) (k : TextKind) → wrong 0 ≡ None
 past_one wrong k first it =
     record { place = suc it.place; here = it.here; before = none_before wrong it.place first it.before }
 
-same_kind : (j k : TextKind) → ◌≡◌ {A = Option TextKind} (Some j) (Some k) → j ≡ k
-same_kind j k e = cc
-
-not_none : (k : TextKind) (o : Option TextKind) → o ≡ Some k → o ≡ None → ⊥
-not_none k o some none = cc
-
 order : (a b : ℕ) → (a < b) ⊎ (b < a) ⊎ (a ≡ b)
 order a b = grind arith
 
@@ -38,9 +34,9 @@ order a b = grind arith
 pub one_first : (wrong : ℕ → Option TextKind) (j k : TextKind) → IsFirst wrong j → IsFirst wrong k → j ≡ k
 one_first wrong j k a b =
     elim (order a.place b.place) [
-      | inl l ↦ absurd (not_none j (wrong a.place) a.here (b.before a.place l))
-      | inr (inl l) ↦ absurd (not_none k (wrong b.place) b.here (a.before b.place l))
-      | inr (inr e) ↦ same_kind j k (sym a.here ∙ ap wrong e ∙ b.here)
+      | inl l ↦ absurd (none_not_some (wrong a.place) j (b.before a.place l) a.here)
+      | inr (inl l) ↦ absurd (none_not_some (wrong b.place) k (a.before b.place l) b.here)
+      | inr (inr e) ↦ same_Some j k (sym a.here ∙ ap wrong e ∙ b.here)
     ]
 
 -- ---- the words after the first
@@ -127,9 +123,6 @@ as_wrong : (f g : ℕ → Option TextKind) (k : TextKind) → ((place : ℕ) →
 as_wrong f g k same it =
     record { place = it.place; here = same it.place ∙ it.here; before = λ other l. same other ∙ it.before other l }
 
-same_err : {A : Type 0} (j k : TextKind) → ◌≡◌ {A = Result A TextKind} (Err j) (Err k) → j ≡ k
-same_err j k e = cc
-
 module _ (after : List ℕ → Option (List Slot)) where
   no_words : word_fault after [] 0 ≡ Some kind.Unknown
   unfolding word_fault
@@ -157,13 +150,13 @@ module _ {V A : Type 0} (says : List ℕ → Option V) (rest : V → Phrase A) (
       → IsFirst (word_fault after words) k
   unfolding first_word
   word_first [] k e =
-      at_first (word_fault after []) k (no_words after ∙ ap (λ (x : TextKind). Some x) (same_err {A = A} kind.Unknown k e))
+      at_first (word_fault after []) k (no_words after ∙ ap (λ (x : TextKind). Some x) (same_Err {A = A} kind.Unknown k e))
   word_first (word ∷ words) k e =
       elim (says word) as (λ o. says word ≡ o → and_then (said_or kind.Unknown o words) rest ≡ Err k
       → IsFirst (word_fault after (word ∷ words)) k) [
         | None ↦ λ is h. at_first (word_fault after (word ∷ words)) k
             (unknown after word words (same word ∙ ap (option_map slots) is)
-            ∙ ap (λ (x : TextKind). Some x) (same_err {A = A} kind.Unknown k h))
+            ∙ ap (λ (x : TextKind). Some x) (same_Err {A = A} kind.Unknown k h))
         | Some v ↦ λ is h. (
             let stand : after word ≡ Some (slots v) = same word ∙ ap (option_map slots) is in
             past_one (word_fault after (word ∷ words)) k (known after word words (slots v) stand)

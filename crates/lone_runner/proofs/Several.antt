@@ -85,7 +85,7 @@ module _ (program : Program) (config : Config) (thread : ℕ) (journal : List Ev
       (ap (parting_at count) (sym (ap reached more) ∙ gone_at turns (suc n) used left s t at goes) ∙ none_yet count t used left most))
 
   -- each turn counts one instruction at most
-  counts_by : (turns n : ℕ) → counted_at (turns + n) ≤ counted_at turns + n
+  pub counts_by : (turns n : ℕ) → counted_at (turns + n) ≤ counted_at turns + n
   counts_by turns zero = let none : turns + 0 ≡ turns = omega arith in rw none (omega arith)
   counts_by turns (suc n) =
       let more : turns + suc n ≡ suc (turns + n) = omega arith in

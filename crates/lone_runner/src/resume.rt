@@ -12,6 +12,7 @@ use crate::fault::AloneFault;
 use crate::replay::parting_of;
 use crate::ticket::{JournalPort, JournalTicket, journal_stays};
 use kernel_contexts::{Loose, Turn};
+use machine_step::Never;
 use sm_types::{Event, Stop};
 use std::alloc::Global;
 
@@ -67,7 +68,7 @@ pub fn resume_to(
     'turns: while loose.count() < count {
         let Some(stop) = make_turn(loose, ticket)? else {
             let now = loose.count();
-            loose.advance_several(count - now);
+            loose.advance_several(&Never, count - now);
             continue;
         };
         let made = loose.count();
@@ -107,7 +108,7 @@ pub fn resume_to_end(
             None => {}
         }
         let now = loose.count();
-        loose.advance_several(count - now);
+        loose.advance_several(&Never, count - now);
     }
 }
 

@@ -1,7 +1,7 @@
 -- What makes the answer of an instruction.
 use mathlib.Core.HLevel.{Σ_prop_path}
 use Rattle.std.proofs.Props.{props}
-use Rattle.std.proofs.Common.{List, ◌&&◌, ◌≡◌, ◌%◌, Bool, true, false, cond, IsTrue, Option, Some, None, ℕ, length, refl, ap, sym, ◌∙◌}
+use Rattle.std.proofs.Common.{List, ◌≡◌, ◌%◌, Bool, true, false, cond, IsTrue, Option, Some, None, ℕ, length, refl, ap, sym, ◌∙◌}
 use Rattle.sm_types.specs.declared.scalars.Scalars.{Scalars}
 use Rattle.sm_types.specs.declared.length.VecLen.{VecLen}
 use Rattle.sm_types.specs.declared.insn.Insn.{Insn}
@@ -27,6 +27,7 @@ use Rattle.a64_encode.specs.Either.{instruction_of}
 use Rattle.std.specs.Option.{option_or}
 use Rattle.scalar_exec.specs.Step.{is_scalar}
 use Rattle.std.specs.Prelude.{if◌then◌else◌}
+use Rattle.plain_lemmas.proofs.Tests.{and-false}
 use Rattle.sve_vectors.specs.Lengths.{current_bytes}
 use Rattle.sve_vectors.specs.State.{SveState, length_of, with_registers}
 use Rattle.vector_step.specs.Core.{VectorCore}
@@ -260,13 +261,9 @@ unneeded it s h =
 abbrev pub held_with : SveState → List (List ℕ) → VectorState
 held_with v za = record { registers = v.registers; za = za }
 
-and_false : (b : Bool) → (b && false) ≡ false
-and_false true = refl
-and_false false = refl
-
 -- a scalar instruction that needs no bank in a mode needs none outside Streaming SVE mode
 pub unneeded_outside : (it : Insn) (streaming : Bool) → IsInRow it → uses_bank it streaming ≡ false → uses_bank it false ≡ false
-unneeded_outside (insn.System x) streaming row h = and_false (is_call x)
+unneeded_outside (insn.System x) streaming row h = and-false (is_call x)
 unneeded_outside other streaming row h = h
 
 -- the current vector length of a machine with vectors in its mode

@@ -121,10 +121,6 @@ pub tells_need : (wants : Bool) (refusals : Refusals) (room : Bool) (effect : Ef
 tells_need true refusals room effect old is = (refl, refl)
 tells_need false refusals room effect old is = cc
 
-pub and_false : (a b : Bool) → b ≡ false → (a && b) ≡ false
-and_false true b e = e
-and_false false b e = refl
-
 -- an instruction that uses the bank needs it where it is allowed
 pub needs_allowed : (executed : Bool) (mode : Option Exception) (uses : Bool) → uses ≡ true
     → cond executed (unless_refused mode true) false ≡ cond executed (unless_refused mode uses) false

@@ -127,7 +127,7 @@ impl Machine {
     /// Makes the access of a load, a store or an atomic instruction at once. Where a check of private memory
     /// refuses it, it waits: it may be one to a shared word.
     #[inline(always)]
-    fn access_at_once(&mut self, insn: &Insn) -> Attempt
+    pub(crate) fn access_at_once(&mut self, insn: &Insn) -> Attempt
         requires access { IsTrue (is_access insn.now) }
         requires fields { IsInRow insn.now }
         ensures effect { (word : ℕ) → AttemptsBy (effect_of_insn word insn.now) self.old self.new result }

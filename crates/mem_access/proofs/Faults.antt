@@ -3,6 +3,7 @@ use Rattle.std.proofs.Common.{◌≡◌, ℕ, Bool, true, false, refl, ap, sym, 
 use Rattle.sm_types.specs.declared.scalars.Scalars.{Scalars}
 use Rattle.sm_types.specs.declared.stop.Exception.{Exception}
 use Rattle.std.specs.Option.{option_or}
+use Rattle.plain_lemmas.proofs.Options.{option_or-none}
 use Rattle.sm_types.specs.Checks.{fault_only}
 use Rattle.paged_memory.specs.Memory.{AddressSpace}
 use Rattle.mem_access.specs.declared.access.MemoryAccess.{MemoryAccess}
@@ -12,10 +13,6 @@ use Rattle.mem_access.specs.Checks.{sp_fault, align_fault}
 use Rattle.mem_access.specs.Transfer.{AfterAccess, Transfers}
 use Rattle.mem_access.specs.Runs.{place_fault, run_shared_fault, run_read_fault, run_write_fault, denied_read, denied_write, denied_update}
 use Rattle.mem_access.specs.Runs.{run_fault}
-
-or_else-none : (o : Option Exception) → option_or o None ≡ o
-or_else-none None = refl
-or_else-none (Some e) = refl
 
 first_three : (a b c rest : Option Exception)
     → option_or a (option_or b (option_or c rest)) ≡ option_or (option_or a (option_or b (option_or c None))) rest
@@ -44,7 +41,7 @@ fault_on : (access : MemoryAccess) (s : Scalars) (m : AddressSpace) (reads write
     (fault_only writes (denied_write m access.address access.size))
 fault_on access s m reads writes none r w =
     place_first access s m ∙ ap (λ o. option_or o (option_or (run_read_fault access m) (option_or (run_write_fault access m) None))) none
-    ∙ ap (λ o. option_or (run_read_fault access m) o) (or_else-none (run_write_fault access m))
+    ∙ ap (λ o. option_or (run_read_fault access m) o) (option_or-none (run_write_fault access m))
     ∙ ap (λ b. option_or (fault_only b (denied_read m access.address access.size)) (run_write_fault access m)) r
     ∙ ap (λ b. option_or (fault_only reads (denied_read m access.address access.size))
     (fault_only b (denied_write m access.address access.size))) w
@@ -52,7 +49,7 @@ fault_on access s m reads writes none r w =
 -- none of them does, and the access reads, writes, or does both
 pub fault_of_read : (access : MemoryAccess) (s : Scalars) (m : AddressSpace) → place_fault access s ≡ None → access.reads ≡ true
     → access.writes ≡ false → run_fault access s m ≡ denied_read m access.address access.size
-fault_of_read access s m none r w = fault_on access s m true false none r w ∙ or_else-none (denied_read m access.address access.size)
+fault_of_read access s m none r w = fault_on access s m true false none r w ∙ option_or-none (denied_read m access.address access.size)
 
 pub fault_of_write : (access : MemoryAccess) (s : Scalars) (m : AddressSpace) → place_fault access s ≡ None → access.reads ≡ false
     → access.writes ≡ true → run_fault access s m ≡ denied_write m access.address access.size

@@ -1,6 +1,5 @@
 -- Numbers of bytes in memory.
 use Rattle.std.proofs.Common.{◌≡◌, ℕ, List, take, refl, ap, sym, ◌∙◌, Some, None}
-use Rattle.std.specs.Prelude.{Result, Ok, Err, OnOk}
 use Rattle.std.specs.Int.{w64, to_le_bytes, bytes_low_first}
 use Rattle.sm_types.specs.declared.insn.AccessSize.{AccessSize}
 use Rattle.sm_types.specs.declared.insn.AccessSize.TheVariants.{Byte, Halfword, Word, Doubleword}
@@ -33,8 +32,3 @@ pub number_written : (m new : AddressSpace) (a k v : ℕ) (size : AccessSize) (b
 unfolding with_number
 number_written m new a k v size bs is low count =
     is ∙ ap (λ xs. record m { mem = set_bytes m.mem a xs }) (low ∙ rw count (low_bytes_of size v))
-
--- what follows of an Ok
-pub on_ok : {T E P Q : Type 0} (r : Result T E) → (P → Q) → OnOk r P → OnOk r Q
-on_ok (Ok x) f h = f h
-on_ok (Err e) f h = tt

@@ -1,31 +1,26 @@
 -- Bytes that were written, read again.
-use Rattle.std.proofs.Common.{◌≡◌, ◌≢◌, ◌⊎◌, inl, inr, ℕ, zero, suc, ◌+◌, ◌-◌, ◌/◌, ◌%◌, ◌^◌, ◌<◌, ◌≤◌, ◌==◌, Bool, true, false, cond}
+use Rattle.std.proofs.Common.{◌≡◌, ◌≢◌, inl, inr, ℕ, zero, suc, ◌+◌, ◌-◌, ◌/◌, ◌%◌, ◌^◌, ◌<◌, ◌≤◌, Bool, true, false, cond}
 use Rattle.std.proofs.Common.{List, [], ◌∷◌, ◌++◌, length, take, get_or, Option, Some, None, refl, ap, sym, ◌∙◌, arith}
 use Rattle.std.proofs.lemmas.List.{take_more, take_all}
-use Rattle.std.proofs.lemmas.Bool.Decides.{nat_tests}
+use Rattle.std.proofs.lemmas.Bool.{ne_eqb}
 use Rattle.std.specs.Prelude.{IsSome}
 use Rattle.std.specs.FinMap.{FinMap, get, insert, get-insert}
 use Rattle.std.specs.Ordering.{nat_cmp}
 use Rattle.std.specs.Cmp.{nat_cmp_total}
+use Rattle.plain_lemmas.proofs.Options.{neither_some}
+use Rattle.plain_lemmas.proofs.Tests.{eqb-self, eq_by_cmp-nat}
+use Rattle.plain_lemmas.proofs.Numbers.{cases_lt_suc}
 use Rattle.paged_memory.specs.Memory.{AddressSpace, byte_with, bytes_with, and_byte, permits, permitted, unless_there, first_without}
 use Rattle.paged_memory.specs.Memory.{set_bytes}
-use Rattle.paged_memory.proofs.Over.{eq_by_cmp-nat}
 use Rattle.mem_access.specs.Runs.{with_bytes}
-use Rattle.paged_memory.proofs.Ready.{neither}
 
 -- ---- bytes that are set
 
-off_test : (a q : ℕ) → a ≢ q → (a == q) ≡ false
-off_test a q h = grind (arith, nat_tests)
-
-on_test : (a : ℕ) → (a == a) ≡ true
-on_test a = grind (arith, nat_tests)
-
 insert_other : (m : FinMap nat_cmp ℕ) (a b q : ℕ) → a ≢ q → get (insert m a b) q ≡ get m q
-insert_other m a b q h = rw (get-insert nat_cmp_total m a b q, eq_by_cmp-nat q a, off_test a q h) refl
+insert_other m a b q h = rw (get-insert nat_cmp_total m a b q, eq_by_cmp-nat q a, ne_eqb a q h) refl
 
 insert_same : (m : FinMap nat_cmp ℕ) (a b : ℕ) → get (insert m a b) a ≡ Some b
-insert_same m a b = rw (get-insert nat_cmp_total m a b a, eq_by_cmp-nat a a, on_test a) refl
+insert_same m a b = rw (get-insert nat_cmp_total m a b a, eq_by_cmp-nat a a, eqb-self a) refl
 
 set_others : (m : FinMap nat_cmp ℕ) (a : ℕ) (bs : List ℕ) (q : ℕ) → ((k : ℕ) → k < length bs → (a + k) % 2 ^ 64 ≢ q)
     → get (set_bytes m a bs) q ≡ get m q
@@ -53,9 +48,6 @@ set_there m a (b ∷ bs) (suc k) l h =
 
 -- ---- bytes that can be read
 
-last_or_before : (k n : ℕ) → k < suc n → (k ≡ n) ⊎ (k < n)
-last_or_before k n l = grind arith
-
 byte_there : (x : ℕ) (o : Option ℕ) → unless_there x o ≡ None → IsSome o
 byte_there x None h = cc
 byte_there x (Some b) h = refl
@@ -66,8 +58,8 @@ unfolding first_without
 readable_at need m a zero k h l = absurd (omega arith)
 readable_at need m a (suc n) k h l =
     let parts : (first_without need m a n ≡ None) × (unless_there ((a + n) % 2 ^ 64) (byte_with need m ((a + n) % 2 ^ 64)) ≡ None) =
-    neither (first_without need m a n) (unless_there ((a + n) % 2 ^ 64) (byte_with need m ((a + n) % 2 ^ 64))) h in
-    elim (last_or_before k n l) [
+    neither_some (first_without need m a n) (unless_there ((a + n) % 2 ^ 64) (byte_with need m ((a + n) % 2 ^ 64))) h in
+    elim (cases_lt_suc k n l) [
       | inl e ↦ rw e (byte_there ((a + n) % 2 ^ 64) (byte_with need m ((a + n) % 2 ^ 64)) parts.1)
       | inr before ↦ readable_at need m a n k parts.0 before
     ]

@@ -1,6 +1,7 @@
 -- The first of some addresses that is shared.
 use Rattle.std.proofs.Common.{◌⊎◌, inl, inr, ◌≡◌, ℕ, zero, suc, ◌+◌, ◌-◌, ◌%◌, ◌^◌, ◌<◌, ◌≤◌, true, false, refl, ap, ◌∙◌, arith, Some, None}
 use Rattle.std.proofs.lemmas.Bool.Decides.{nat_tests}
+use Rattle.plain_lemmas.proofs.Numbers.{cases_lt_suc}
 use Rattle.mem_access.specs.Checks.{is_shared}
 use Rattle.mem_access.specs.Runs.{first_shared}
 
@@ -18,15 +19,12 @@ unfolding first_shared
 first_shared-none a zero h = refl
 first_shared-none a (suc n) h = rw (first_shared-none a n (λ k l. h k (omega arith)), h n (omega arith)) refl
 
-last_or : (d n : ℕ) → d < suc n → (d ≡ n) ⊎ (d < n)
-last_or d n l = grind arith
-
 pub first_shared-at : (a n d : ℕ) → ((k : ℕ) → k < d → is_shared ((a + k) % 2 ^ 64) ≡ false) → is_shared ((a + d) % 2 ^ 64) ≡ true → d < n
     → first_shared a n ≡ Some ((a + d) % 2 ^ 64)
 unfolding first_shared
 first_shared-at a zero d before here l = absurd (omega arith)
 first_shared-at a (suc n) d before here l =
-    elim (last_or d n l) [
+    elim (cases_lt_suc d n l) [
       | inl e ↦
           let none : first_shared a n ≡ None = first_shared-none a n (λ k m. before k (omega arith)) in
           rw (none, ← e, here) refl

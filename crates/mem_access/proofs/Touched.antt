@@ -7,6 +7,7 @@ use Rattle.paged_memory.specs.Memory.{AddressSpace, run_of}
 use Rattle.std.specs.List.{find}
 use Rattle.std.proofs.lemmas.Option.{same_Some, none-some, cond_some}
 use Rattle.std.proofs.lemmas.Bool.Decides.{nat_tests}
+use Rattle.std.proofs.lemmas.Bool.{and_parts}
 use Rattle.sm_types.specs.declared.scalars.Scalars.{Scalars}
 use Rattle.sm_types.specs.declared.shared_op.OpKind.{OpKind}
 use Rattle.sm_types.specs.declared.shared_op.SharedOp.{SharedOp}
@@ -75,10 +76,6 @@ reaches (insn.LoadLiteral x) s op e = record { run = load_literal_access x s; ac
 reaches (insn.Atomic x) s op e = record { run = atomic_access x s; access = refl; word = atomic_place x s _ op e }
 reaches other s op e = absurd (none-some op e)
 
-both : (b c : Bool) → (b && c) ≡ true → (b ≡ true) × (c ≡ true)
-both true c e = (refl, e)
-both false c e = cc
-
 -- its place and its bytes
 pub record IsOfWord (run : MemoryAccess) (place : ℕ) : Type 0 where
   pub size : run.size ≡ 8
@@ -89,8 +86,8 @@ pub record IsOfWord (run : MemoryAccess) (place : ℕ) : Type 0 where
 pub of_word : (run : MemoryAccess) (place : ℕ) → reached_word run ≡ Some place → IsOfWord run place
 of_word run place e =
     let is = cond_some (is_of_word run) (word_number run.address) place e in
-    let parts = both ((run.size == 8) && is_shared run.address) (run.address % 8 == 0) is.0 in
-    let first = both (run.size == 8) (is_shared run.address) parts.0 in
+    let parts = and_parts ((run.size == 8) && is_shared run.address) (run.address % 8 == 0) is.0 in
+    let first = and_parts (run.size == 8) (is_shared run.address) parts.0 in
     let size : run.size ≡ 8 = grind (arith, nat_tests, first.0) in
     let aligned : run.address % 8 ≡ 0 = grind (arith, nat_tests, parts.1) in
     let least : 0x7F0000000000 ≤ run.address = above run.address first.1 in

@@ -29,7 +29,7 @@ pub struct MemoryAccess {
 }
 
 /// The size in bytes.
-#[inline]
+#[inline(always)]
 pub fn bytes_in(size: AccessSize) -> u64
     ensures value { result ≡ bytes_in size }
     ensures some { 1 ≤ result }
@@ -44,7 +44,7 @@ pub fn bytes_in(size: AccessSize) -> u64
 }
 
 /// The access size where a register is scaled, else 1.
-#[inline]
+#[inline(always)]
 fn scale_of(scaled: bool, size: AccessSize) -> u64
     ensures { result ≡ scale_of scaled size }
 {
@@ -117,7 +117,7 @@ pub fn load_store_access(x: &LoadStore, s: &Scalars) -> MemoryAccess
 }
 
 /// The size of a load from beside the program counter.
-#[inline]
+#[inline(always)]
 pub fn literal_size(op: LoadLiteralOp) -> AccessSize
     ensures { bytes_in result ≡ literal_size op }
 {
@@ -128,7 +128,7 @@ pub fn literal_size(op: LoadLiteralOp) -> AccessSize
 }
 
 /// The access of a load from beside the program counter.
-#[inline]
+#[inline(always)]
 #[tactic(auto, unfolding(crate::specs::Access::load_literal_access))]
 pub fn load_literal_access(x: &LoadLiteral, s: &Scalars) -> MemoryAccess
     ensures value { result ≡ load_literal_access x.now s.now }
@@ -146,7 +146,7 @@ pub fn load_literal_access(x: &LoadLiteral, s: &Scalars) -> MemoryAccess
 }
 
 /// The bytes of one of a pair's registers.
-#[inline]
+#[inline(always)]
 pub fn register_size(wide: bool) -> u64
     ensures value { result ≡ register_size wide }
     ensures some { 1 ≤ result }
@@ -156,7 +156,7 @@ pub fn register_size(wide: bool) -> u64
 }
 
 /// The base and a pair's offset.
-#[inline]
+#[inline(always)]
 fn offset_base(x: &LoadStorePair, s: &Scalars) -> u64
     requires { IsLoadStorePair x.now }
     ensures { result ≡ offset_base x.now s.now }
@@ -166,7 +166,7 @@ fn offset_base(x: &LoadStorePair, s: &Scalars) -> u64
 }
 
 /// The address of a pair's access.
-#[inline]
+#[inline(always)]
 #[tactic(auto, unfolding(crate::specs::Access::pair_address))]
 fn pair_address(x: &LoadStorePair, s: &Scalars) -> u64
     requires { IsLoadStorePair x.now }
@@ -179,7 +179,7 @@ fn pair_address(x: &LoadStorePair, s: &Scalars) -> u64
 }
 
 /// Writes the base where a pair's access does.
-#[inline]
+#[inline(always)]
 #[tactic(auto, unfolding(crate::specs::Access::with_pair_base))]
 pub fn write_pair_base(s: &mut Scalars, x: &LoadStorePair)
     requires { IsLoadStorePair x.now }
@@ -196,7 +196,7 @@ pub fn write_pair_base(s: &mut Scalars, x: &LoadStorePair)
 }
 
 /// The access of a load or store of two registers.
-#[inline]
+#[inline(always)]
 #[tactic(auto, unfolding(crate::specs::Access::pair_access))]
 pub fn pair_access(x: &LoadStorePair, s: &Scalars) -> MemoryAccess
     requires { IsLoadStorePair x.now }
@@ -216,7 +216,7 @@ pub fn pair_access(x: &LoadStorePair, s: &Scalars) -> MemoryAccess
 }
 
 /// An ordered or atomic access at a base.
-#[inline]
+#[inline(always)]
 fn at_base(size: AccessSize, rn: u8, reads: bool, writes: bool, s: &Scalars) -> MemoryAccess
     requires { rn < 32 }
     ensures value { result ≡ at_base size rn reads writes s.now }
@@ -234,7 +234,7 @@ fn at_base(size: AccessSize, rn: u8, reads: bool, writes: bool, s: &Scalars) -> 
 }
 
 /// The access of an ordered or atomic instruction.
-#[inline]
+#[inline(always)]
 #[tactic(auto, unfolding(crate::specs::Access::atomic_access))]
 pub fn atomic_access(x: &Atomic, s: &Scalars) -> MemoryAccess
     requires { IsAtomic x.now }

@@ -11,7 +11,7 @@ pub const SHARED: u64 = 0x7f00_0000_0000;
 pub const SHARED_END: u64 = 0x7f00_0000_1000;
 
 /// The first of so many bytes from an address on that is shared.
-#[inline]
+#[inline(always)]
 pub fn first_shared(address: u64, size: u64) -> Option<u64>
     requires some { 1 ≤ size }
     requires short { size ≤ 4096 }

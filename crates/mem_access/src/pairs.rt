@@ -16,7 +16,7 @@ use paged_memory::Pages;
 use sm_types::{Access, AccessSize, Exception};
 
 /// The two numbers of some bytes.
-#[inline]
+#[inline(always)]
 fn numbers_of(bytes: &[u8], wide: bool) -> (u64, u64)
     requires { length bytes.now ≡ 2 * register_size wide }
     ensures first { result.0 ≡ little_number (take (register_size wide) bytes.now) }
@@ -37,7 +37,7 @@ fn numbers_of(bytes: &[u8], wide: bool) -> (u64, u64)
 }
 
 /// The numbers at an address, or the exception of the first byte that cannot be read.
-#[inline]
+#[inline(always)]
 pub fn read_pair(pages: &Pages, address: u64, wide: bool) -> Result<(u64, u64), Exception>
     ensures first { let whole = number_in pages.now.memory address (2 * register_size wide)
         in IfOk result (λ p. p.0 ≡ whole % 2 ^ (8 * register_size wide)) }
@@ -83,7 +83,7 @@ fn read_pair_across(pages: &Pages, address: u64, wide: bool) -> Result<(u64, u64
 }
 
 /// Eight bytes after eight.
-#[inline]
+#[inline(always)]
 fn joined_wide(first: u64, second: u64) -> [u8; 16]
     ensures { result ≡ bytes_low_first 0 8 first ++ bytes_low_first 0 8 second }
 {
@@ -94,7 +94,7 @@ fn joined_wide(first: u64, second: u64) -> [u8; 16]
 }
 
 /// Four bytes after four.
-#[inline]
+#[inline(always)]
 fn joined_narrow(first: u64, second: u64) -> [u8; 8]
     ensures { result ≡ bytes_low_first 0 4 first ++ bytes_low_first 0 4 second }
 {
@@ -104,7 +104,7 @@ fn joined_narrow(first: u64, second: u64) -> [u8; 8]
 }
 
 /// Writes the low bytes of two values, or says why it does not.
-#[inline]
+#[inline(always)]
 pub fn write_pair(
     pages: &mut Pages,
     address: u64,

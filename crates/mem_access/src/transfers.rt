@@ -1,5 +1,5 @@
 //! The loads, stores and atomic instructions.
-ghost use Rattle.std.specs.Prelude.{◌≢◌, ◌*◌, IsTrue, Err};
+ghost use Rattle.std.specs.Prelude.{◌≡◌, ◌≢◌, ◌*◌, IsTrue, Err};
 ghost use Rattle.a64_table.specs.Ranges.{IsInRow, IsLoadStore, IsLoadLiteral, IsLoadStorePair};
 ghost use Rattle.paged_memory.specs.Memory.{run_of};
 ghost use Rattle.paged_memory.specs.PageTable.{AreOwned, KeepsOwned, Owns};
@@ -86,6 +86,22 @@ fn transfer_load_store(x: &LoadStore, s: &mut Scalars, pages: &mut Pages) -> Res
     }
 }
 
+/// A load of one register, which changes no page.
+#[inline(always)]
+pub fn load_one(x: &LoadStore, s: &mut Scalars, pages: &Pages) -> Result<(), AccessStop>
+    requires fields { IsLoadStore x.now }
+    requires load { IsTrue (is_load x.now.op) }
+    ensures { Transfers (transfer_fault (Insn.LoadStore x.now) s.old pages.now.memory)
+        (after_access (Insn.LoadStore x.now) s.old pages.now.memory)
+        (contents_of s.old pages.now) (contents_of s.new pages.now) result }
+{
+    let access = load_store_access(x, s);
+    match place_fault(&access, s) {
+        Some(exception) => Err(AccessStop::Raise(exception)),
+        None => load(x, access.address, s, pages),
+    }
+}
+
 /// Loads a register from beside the program counter.
 #[inline]
 #[tactic(auto, unfolding(crate::specs::Runs::after_load_literal))]
@@ -127,9 +143,9 @@ fn transfer_load_literal(x: &LoadLiteral, s: &mut Scalars, pages: &Pages) -> Res
 }
 
 /// Stores two registers.
-#[inline]
+#[inline(always)]
 #[tactic(auto, unfolding(crate::specs::Runs::after_pair, crate::specs::Transfer::pair_after))]
-fn store_pair(
+fn store_registers(
     x: &LoadStorePair,
     address: u64,
     s: &mut Scalars,
@@ -154,9 +170,9 @@ fn store_pair(
 }
 
 /// Loads two registers.
-#[inline]
+#[inline(always)]
 #[tactic(auto, unfolding(crate::specs::Runs::after_pair, crate::specs::Transfer::pair_after))]
-fn load_pair(
+fn load_registers(
     x: &LoadStorePair,
     address: u64,
     s: &mut Scalars,
@@ -180,7 +196,7 @@ fn load_pair(
 }
 
 /// A load or store of two registers.
-#[inline(never)]
+#[inline(always)]
 fn transfer_pair(x: &LoadStorePair, s: &mut Scalars, pages: &mut Pages) -> Result<(), AccessStop>
     requires { IsLoadStorePair x.now }
     ensures made { Transfers (run_fault (pair_access x.now s.old) s.old pages.old.memory)
@@ -194,9 +210,25 @@ fn transfer_pair(x: &LoadStorePair, s: &mut Scalars, pages: &mut Pages) -> Resul
     match place_fault(&access, s) {
         Some(exception) => Err(AccessStop::Raise(exception)),
         None => match x.op {
-            PairOp::Stp => store_pair(x, access.address, s, pages),
-            PairOp::Ldp => load_pair(x, access.address, s, pages),
+            PairOp::Stp => store_registers(x, access.address, s, pages),
+            PairOp::Ldp => load_registers(x, access.address, s, pages),
         },
+    }
+}
+
+/// A load of two registers, which changes no page.
+#[inline(always)]
+pub fn load_pair(x: &LoadStorePair, s: &mut Scalars, pages: &Pages) -> Result<(), AccessStop>
+    requires fields { IsLoadStorePair x.now }
+    requires load { x.now.op ≡ PairOp.Ldp }
+    ensures { Transfers (transfer_fault (Insn.LoadStorePair x.now) s.old pages.now.memory)
+        (after_access (Insn.LoadStorePair x.now) s.old pages.now.memory)
+        (contents_of s.old pages.now) (contents_of s.new pages.now) result }
+{
+    let access = pair_access(x, s);
+    match place_fault(&access, s) {
+        Some(exception) => Err(AccessStop::Raise(exception)),
+        None => load_registers(x, access.address, s, pages),
     }
 }
 
@@ -238,4 +270,34 @@ pub fn transfer(insn: &Insn, scalars: &mut Scalars, pages: &mut Pages) -> Result
     ensures kept { KeepsOwned pages.old pages.new }
 {
     transfer_run(insn, scalars, pages)
+}
+
+/// A store of one register, or a load, inlined, so that what is constant of it is tested in advance.
+#[inline(always)]
+pub fn store_one(x: &LoadStore, s: &mut Scalars, pages: &mut Pages) -> Result<(), AccessStop>
+    requires { IsLoadStore x.now }
+    ensures made { Transfers (transfer_fault (Insn.LoadStore x.now) s.old pages.old.memory)
+        (after_access (Insn.LoadStore x.now) s.old pages.old.memory)
+        (contents_of s.old pages.old) (contents_of s.new pages.new) result }
+    ensures room { HasRoomFor (Insn.LoadStore x.now) s.old pages.old → result ≢ Err AccessStop.Memory }
+    ensures owned { Owns raised_by (writes_of (Insn.LoadStore x.now) s.old pages.old.memory)
+        pages.old pages.new result }
+    ensures kept { KeepsOwned pages.old pages.new }
+{
+    transfer(&Insn::LoadStore(*x), s, pages)
+}
+
+/// A store of two registers, or a load, inlined too.
+#[inline(always)]
+pub fn store_pair(x: &LoadStorePair, s: &mut Scalars, pages: &mut Pages) -> Result<(), AccessStop>
+    requires { IsLoadStorePair x.now }
+    ensures made { Transfers (transfer_fault (Insn.LoadStorePair x.now) s.old pages.old.memory)
+        (after_access (Insn.LoadStorePair x.now) s.old pages.old.memory)
+        (contents_of s.old pages.old) (contents_of s.new pages.new) result }
+    ensures room { HasRoomFor (Insn.LoadStorePair x.now) s.old pages.old → result ≢ Err AccessStop.Memory }
+    ensures owned { Owns raised_by (writes_of (Insn.LoadStorePair x.now) s.old pages.old.memory)
+        pages.old pages.new result }
+    ensures kept { KeepsOwned pages.old pages.new }
+{
+    transfer(&Insn::LoadStorePair(*x), s, pages)
 }

@@ -10,7 +10,7 @@ use scalar_exec::extend_sign;
 use sm_types::{AccessSize, AtomicOp, LoadLiteralOp, LoadStoreOp};
 
 /// How many bits the bytes have.
-#[inline]
+#[inline(always)]
 fn bits_in(size: AccessSize) -> u32
     ensures value { result ≡ 8 * bytes_in size }
     ensures some { 8 ≤ result }
@@ -39,7 +39,7 @@ pub fn loaded(op: LoadStoreOp, size: AccessSize, value: u64) -> u64
 }
 
 /// The register that a load from beside the program counter gives.
-#[inline]
+#[inline(always)]
 #[tactic(auto, unfolding(crate::specs::Values::literal_loaded))]
 pub fn literal_loaded(op: LoadLiteralOp, value: u64) -> u64
     ensures { result ≡ literal_loaded op value }
@@ -51,7 +51,7 @@ pub fn literal_loaded(op: LoadLiteralOp, value: u64) -> u64
 }
 
 /// The low bytes of a register.
-#[inline]
+#[inline(always)]
 pub fn low_bytes(size: AccessSize, value: u64) -> u64
     ensures value { result ≡ low_bytes (bytes_in size) value }
     ensures small { result < 2 ^ (8 * bytes_in size) }
@@ -65,7 +65,7 @@ pub fn low_bytes(size: AccessSize, value: u64) -> u64
 }
 
 /// A number below 2^32 of so many bits in two's complement.
-#[inline]
+#[inline(always)]
 fn signed_narrow(value: u64, half: i64) -> i64
     requires half { pos 0 <ℤ half }
     requires narrow { half ≤ℤ pos (2 ^ 31) }
@@ -81,7 +81,7 @@ fn signed_narrow(value: u64, half: i64) -> i64
 }
 
 /// The number of the bytes in two's complement.
-#[inline]
+#[inline(always)]
 #[tactic(auto, unfolding(insn_forms::specs::Fields::signed_value))]
 fn signed_bytes(size: AccessSize, value: u64) -> i64
     requires { value < 2 ^ (8 * bytes_in size) }
@@ -96,7 +96,7 @@ fn signed_bytes(size: AccessSize, value: u64) -> i64
 }
 
 /// Every bit of the bytes inverted.
-#[inline]
+#[inline(always)]
 fn inverted(size: AccessSize, value: u64) -> u64
     requires { value < 2 ^ (8 * bytes_in size) }
     ensures { result ≡ 2 ^ (8 * bytes_in size) - 1 - value }
@@ -110,7 +110,7 @@ fn inverted(size: AccessSize, value: u64) -> u64
 }
 
 /// Tells whether the first of two numbers in two's complement is at most the second.
-#[inline]
+#[inline(always)]
 fn is_at_most(size: AccessSize, old: u64, value: u64) -> bool
     requires old { old < 2 ^ (8 * bytes_in size) }
     requires value { value < 2 ^ (8 * bytes_in size) }
@@ -120,7 +120,7 @@ fn is_at_most(size: AccessSize, old: u64, value: u64) -> bool
 }
 
 /// What an atomic operation leaves in memory.
-#[inline]
+#[inline(always)]
 #[tactic(auto, unfolding(crate::specs::Values::updated))]
 pub fn updated(op: AtomicOp, size: AccessSize, old: u64, value: u64) -> u64
     requires old { old < 2 ^ (8 * bytes_in size) }

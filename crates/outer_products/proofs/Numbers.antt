@@ -6,6 +6,7 @@ use Rattle.std.specs.Int.{w16, w32}
 use Rattle.std.proofs.lemmas.Bool.{cases_lt, cond-true, cond-false}
 use Rattle.std.proofs.lemmas.Int.{ints}
 use Rattle.std.proofs.Math.IntN.{pos-*ℤ-negsuc, negsuc-*ℤ-negsuc, negsuc-*ℤ-pos, neg_ℤ-neg_ℤ}
+use Rattle.plain_lemmas.proofs.Numbers.{pos_sub-lt}
 use Rattle.vector_elements.specs.declared.size.Size.{Size}
 use Rattle.vector_elements.specs.declared.size.Size.TheVariants.{B, H, S, D}
 use Rattle.vector_elements.specs.Numbers.{range_of, signed_of, wrapped}
@@ -16,9 +17,6 @@ use Rattle.outer_products.specs.Sources.{negated}
 abbrev pub IsWithin : ℕ → ℤ → Type 0
 IsWithin m (pos n) = n < m
 IsWithin m (negsuc n) = suc n < m
-
-less : (a b : ℕ) → a < b → pos a -ℤ pos b ≡ negsuc (b - a - 1)
-less a b lt = grind (arith, ints)
 
 pub wrapped_fits : (size : Size) (z : ℤ) → wrapped size z < range_of size
 unfolding wrapped
@@ -37,7 +35,7 @@ either_within half range x some fits = elim (cases_lt x half) [
   | inl lt ↦ subst (IsWithin range) (sym (cond-true _ _ _ (lt-ltb x half lt))) fits
   | inr ge ↦
       let below : suc (range - x - 1) < range = omega arith in
-      subst (IsWithin range) (sym (cond-false _ _ _ (le-ltb x half ge) ∙ less x range fits)) below
+      subst (IsWithin range) (sym (cond-false _ _ _ (le-ltb x half ge) ∙ pos_sub-lt x range fits)) below
 ]
 
 signed_within : (size : Size) (x : ℕ) → x < range_of size → IsWithin (range_of size) (signed_of size x)

@@ -1,17 +1,12 @@
 -- Sums modulo 2 ^ 32 and 2 ^ 64.
-use Rattle.std.proofs.Common.{◌≡◌, ℕ, ◌+◌, ◌-◌, ◌%◌, ◌^◌, ◌<◌, ◌≤◌, ap, ◌∙◌, sym, arith, inl, inr, ℤ, pos, ◌+ℤ◌}
+use Rattle.std.proofs.Common.{◌≡◌, ℕ, ◌+◌, ◌-◌, ◌%◌, ◌^◌, ap, ◌∙◌, sym, arith, inl, inr, ℤ, pos, ◌+ℤ◌}
 use Rattle.std.specs.Prelude.{negsuc}
 use Rattle.std.specs.Int.{w32, w64, int_wrap, cast_unsigned}
 use Rattle.std.proofs.lemmas.Bool.{cases_lt}
-use Rattle.std.proofs.lemmas.Int.{ints, of_z-to_z}
+use Rattle.std.proofs.lemmas.Int.{of_z-to_z}
+use Rattle.plain_lemmas.proofs.Numbers.{pos_add_negsuc-le, pos_add_negsuc-lt}
 use Rattle.vector_elements.specs.declared.size.Size.TheVariants.{S, D}
 use Rattle.vector_elements.specs.Numbers.{wrapped}
-
-above : (a b : ℕ) → b < a → pos a +ℤ negsuc b ≡ pos (a - b - 1)
-above a b lt = grind (arith, ints)
-
-below : (a b : ℕ) → a ≤ b → pos a +ℤ negsuc b ≡ negsuc (b - a)
-below a b le = grind (arith, ints)
 
 -- a number modulo 2 ^ 32, and modulo 2 ^ 64
 abbrev short_part : ℤ → ℕ
@@ -37,9 +32,9 @@ unfolding wrapped
 word_sum old (pos n) = omega arith
 word_sum old (negsuc n) = elim (cases_lt n old) [
   | inl lt ↦ (let e : (old + (2 ^ 32 - 1 - n % 2 ^ 32)) % 2 ^ 32 ≡ (old - n - 1) % 2 ^ 32 = omega (arith, lt) in
-      e ∙ sym (ap (wrapped S) (above old n lt)))
+      e ∙ sym (ap (wrapped S) (pos_add_negsuc-lt old n lt)))
   | inr le ↦ (let e : (old + (2 ^ 32 - 1 - n % 2 ^ 32)) % 2 ^ 32 ≡ 2 ^ 32 - 1 - (n - old) % 2 ^ 32 = omega (arith, le) in
-      e ∙ sym (ap (wrapped S) (below old n le)))
+      e ∙ sym (ap (wrapped S) (pos_add_negsuc-le old n le)))
 ]
 
 doubleword_sum : (old : ℕ) (z : ℤ) → (old + long_part z) % 2 ^ 64 ≡ wrapped D (pos old +ℤ z)
@@ -47,9 +42,9 @@ unfolding wrapped
 doubleword_sum old (pos n) = omega arith
 doubleword_sum old (negsuc n) = elim (cases_lt n old) [
   | inl lt ↦ (let e : (old + (2 ^ 64 - 1 - n % 2 ^ 64)) % 2 ^ 64 ≡ (old - n - 1) % 2 ^ 64 = omega (arith, lt) in
-      e ∙ sym (ap (wrapped D) (above old n lt)))
+      e ∙ sym (ap (wrapped D) (pos_add_negsuc-lt old n lt)))
   | inr le ↦ (let e : (old + (2 ^ 64 - 1 - n % 2 ^ 64)) % 2 ^ 64 ≡ 2 ^ 64 - 1 - (n - old) % 2 ^ 64 = omega (arith, le) in
-      e ∙ sym (ap (wrapped D) (below old n le)))
+      e ∙ sym (ap (wrapped D) (pos_add_negsuc-le old n le)))
 ]
 
 -- an element and a sum that wrapped

@@ -1,28 +1,19 @@
 -- Rows whose elements are written some at a time.
 use Rattle.std.proofs.Common.{◌≡◌, ℕ, ◌+◌, ◌*◌, ◌%◌, ◌^◌, ◌<◌, ◌≤◌, List, ◌++◌, length, take, drop, ap, ap₂}
 use Rattle.std.proofs.Common.{◌∙◌, sym, arith, ℤ, pos, ◌+ℤ◌, subst}
-use Rattle.std.proofs.lemmas.Grind.{common_steps}
 use Rattle.std.specs.Int.{w32, w64, int_wrap, cast_unsigned}
 use Rattle.std.specs.Simd.Lanes.{number_l, digits_l, Each1, put_chunk}
 use Rattle.std.proofs.lemmas.Simd.{put_chunk_is, Each1-from_get_or}
+use Rattle.plain_lemmas.proofs.Lists.{drop_twice}
 use Rattle.vector_elements.specs.declared.size.Size.{Size}
 use Rattle.vector_elements.specs.Elements.{listed, element_of, bytes_of}
 use Rattle.vector_elements.specs.declared.size.Size.TheVariants.{S, D}
 use Rattle.vector_elements.specs.Numbers.{bytes_in, wrapped}
 use Rattle.vector_elements.proofs.Lists.{length-bytes, length-listed, listed-at}
 use Rattle.vector_elements.proofs.Sixteen.{values_of, lane_bytes, changed_more}
-use Rattle.outer_products.specs.Sources.{summed, sixteen_with}
+use Rattle.outer_products.specs.Sources.{summed, sixteen_with, IsSummedTo}
 use Rattle.outer_products.proofs.Numbers.{wrapped_fits}
 use Rattle.outer_products.proofs.Sums.{word_with-is, doubleword_with-is}
-
-drop_twice : {A : Type 0} → (xs : List A) (n m k : ℕ) → k ≡ n + m → drop m (drop n xs) ≡ drop k xs
-drop_twice xs n m k e = grind (arith, common_steps)
-
--- the first c elements of a row have their sums added
-abbrev pub IsSummedTo : Size → (ℕ → ℤ) → List ℕ → ℕ → List ℕ → Type 0
-IsSummedTo size sums old c row =
-    let e = bytes_in size in
-    row ≡ bytes_of e (listed (λ k. summed size sums k (element_of e old k)) c) ++ drop (e * c) old
 
 -- with some elements more
 summed_more : (size : Size) (sums : ℕ → ℤ) (old row new : List ℕ) (c k : ℕ)

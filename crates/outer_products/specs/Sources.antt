@@ -2,7 +2,7 @@
 -- the products are subtracted, so that they are added in each case. Those of Zm stand in pairs: of the
 -- columns whose elements fill 16 bytes of a row, the first two numbers of each come before the last two of
 -- each.
-use Rattle.std.specs.Prelude.{ℕ, ◌+◌, ◌*◌, ◌/◌, ◌%◌, Bool, true, false, List, [], ◌∷◌, ◌++◌, length}
+use Rattle.std.specs.Prelude.{◌≡◌, ℕ, ◌+◌, ◌*◌, ◌/◌, ◌%◌, Bool, true, false, List, [], ◌∷◌, ◌++◌, length}
 use Rattle.std.specs.Prelude.{slice_index_or, take, drop, ℤ, pos, neg_ℤ, ◌+ℤ◌, ◌*ℤ◌, FitsSigned}
 use Rattle.std.specs.Int.{Width, w32, w64, int_wrap}
 use Rattle.vector_elements.specs.declared.size.Size.{Size}
@@ -86,6 +86,12 @@ sixteen_with size sums c count row =
     take (e * c) row
     ++ (bytes_of e (listed (λ j. summed size sums (c + j) (element_of e row (c + j))) count)
     ++ drop (e * (c + count)) row)
+
+-- the first c elements of a row have their sums added
+abbrev pub IsSummedTo : Size → (ℕ → ℤ) → List ℕ → ℕ → List ℕ → Type 0
+IsSummedTo size sums old c row =
+    let e = bytes_in size in
+    row ≡ bytes_of e (listed (λ k. summed size sums k (element_of e old k)) c) ++ drop (e * c) old
 
 -- row r, by the numbers of Zn and those of Zm in pairs
 unfoldable pub row_of_sums : Size → List ℤ → List ℤ → ℕ → List ℕ → List ℕ

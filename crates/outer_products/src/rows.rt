@@ -1,8 +1,9 @@
 //! The rows of a tile, one after another.
-ghost use Rattle.std.specs.Prelude.{◌≡◌, ℕ, ℤ, ◌+◌, ◌*◌, ◌%◌, ◌≤◌, length};
+ghost use Rattle.std.specs.Prelude.{◌≡◌, ℕ, ℤ, ◌+◌, ◌*◌, ◌%◌, ◌≤◌, List, length};
 ghost use Rattle.std.specs.Int.{w16, w32};
 ghost use Rattle.vector_elements.specs.declared.size.Size.TheVariants.{S, D};
 ghost use Rattle.outer_products.specs.Sources.{AllFit, word_sums, doubleword_sums, sixteen_with, row_of_sums};
+ghost use Rattle.outer_products.specs.Sources.{dot_in_pairs, IsSummedTo};
 
 use crate::dots::{doubleword_sums, word_sums};
 use std::simd::prelude::*;
@@ -34,6 +35,39 @@ fn add_doublewords(row: &mut [u8], i: usize, sums: [i64; 2])
     new.to_le_bytes().copy_to_slice(&mut row[16 * i..]);
 }
 
+/// Adds the sums of 16 columns to a row, of which those before have theirs.
+#[inline(always)]
+fn add_four(row: &mut [u8], n: [i16; 4], m: &[i16], t: usize)
+    requires room { 64 * t + 64 ≤ length row.old }
+    requires same { length row.old ≡ length m.now }
+    requires n_fit { AllFit w16 n }
+    requires m_fit { AllFit w16 m.now }
+    ensures summed { (old : List ℕ) → IsSummedTo S (dot_in_pairs 4 n m.now) old (16 * t) row.old →
+        IsSummedTo S (dot_in_pairs 4 n m.now) old (16 * (t + 1)) row.new }
+    ensures long { length row.new ≡ length row.old }
+{
+    add_words(row, 4 * t, word_sums(n, m, 4 * t));
+    add_words(row, 4 * t + 1, word_sums(n, m, 4 * t + 1));
+    add_words(row, 4 * t + 2, word_sums(n, m, 4 * t + 2));
+    add_words(row, 4 * t + 3, word_sums(n, m, 4 * t + 3));
+}
+
+/// Adds the sums of all columns to a row of 256 bytes. Without a loop LLVM keeps the numbers of Zn packed,
+/// and in a call of its own those of Zm: laid into the loop over rows it would widen them before it.
+#[inline(never)]
+fn add_sixteen(row: &mut [u8], n: [i16; 4], m: &[i16])
+    requires long { length row.old ≡ 256 }
+    requires same { length row.old ≡ length m.now }
+    requires n_fit { AllFit w16 n }
+    requires m_fit { AllFit w16 m.now }
+    ensures { IsSummedTo S (dot_in_pairs 4 n m.now) row.old 64 row.new }
+{
+    add_four(row, n, m, 0);
+    add_four(row, n, m, 1);
+    add_four(row, n, m, 2);
+    add_four(row, n, m, 3);
+}
+
 /// The numbers of two sources of bytes, by which each row of words is changed.
 #[derive(Clone, Copy)]
 pub(crate) struct ByteSources<'a> {
@@ -52,6 +86,10 @@ fn change_words(s: &ByteSources, r: usize, row: &mut [u8])
     ensures { row.new ≡ row_of_sums S s.now.n.now s.now.m.now r row.old }
 {
     let n = [s.n[4 * r], s.n[4 * r + 1], s.n[4 * r + 2], s.n[4 * r + 3]];
+    if s.m.len() == 256 {
+        add_sixteen(row, n, s.m);
+        return;
+    }
     let turns = s.m.len() / 64;
     for turn in 0..turns {
         add_words(row, 4 * turn, word_sums(n, s.m, 4 * turn));

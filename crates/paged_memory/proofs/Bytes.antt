@@ -8,10 +8,11 @@ use Rattle.std.proofs.lemmas.Bool.Decides.{nat_tests}
 use Rattle.std.specs.FinMap.{get, get-insert, get-empty}
 use Rattle.std.specs.Cmp.{nat_cmp_total}
 use Rattle.std.specs.Ordering.{nat_cmp}
+use Rattle.plain_lemmas.proofs.Tests.{eq_by_cmp-nat}
 use Rattle.paged_memory.specs.declared.page.Page.{Page}
 use Rattle.paged_memory.specs.Memory.{set_bytes, byte_with, permitted}
 use Rattle.paged_memory.specs.Pages.{page_at, mem_of, perm_of, memory_of, IsFine}
-use Rattle.paged_memory.proofs.Over.{over, eq_by_cmp-nat, get-set_bytes, in_page, off_page}
+use Rattle.paged_memory.proofs.Over.{over, get-set_bytes, in_page, off_page}
 
 -- what the second gives of the value of the first, if any
 abbrev pub bind : {A B : Type 0} → Option A → (A → Option B) → Option B

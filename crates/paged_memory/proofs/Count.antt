@@ -3,16 +3,17 @@ use Rattle.std.proofs.Common.{◌⊎◌, inl, inr, ◌≡◌, ◌≢◌, ℕ, ze
 use Rattle.std.proofs.Common.{length, get_or, refl, ap, sym, ◌∙◌, arith, Option, Some, None, slice_get, All}
 use Rattle.std.specs.Prelude.{◌==◌, ◌&&◌, nat_le, nat_lt, IsSome, is_some}
 use Rattle.std.proofs.lemmas.Bool.Decides.{nat_tests}
+use Rattle.std.proofs.lemmas.Bool.{eqb-true}
 use Rattle.std.specs.FinMap.{FinMap, get, len, insert, remove, empty, get-insert, get-remove, get-empty, len-empty, len-insert, same_map}
 use Rattle.std.specs.FinMap.{nat_cmp-IsAntisymmetric}
 use Rattle.std.specs.Cmp.{nat_cmp_total}
 use Rattle.std.specs.Ordering.{nat_cmp}
 use Rattle.std.specs.Option.{option_or}
+use Rattle.plain_lemmas.proofs.Tests.{eqb-self, eq_by_cmp-nat}
 use Rattle.paged_memory.specs.Memory.{IsWhole}
 use Rattle.paged_memory.specs.Image.{Extent, Program, union, part_flags, image_flags, part_byte, parts_byte, or_zero, IsMemoryOf, IsImage}
 use Rattle.paged_memory.specs.Image.{IsLoadablePage}
 use Rattle.paged_memory.specs.Parts.{IsPlaced, ArePlaced, touched_below}
-use Rattle.paged_memory.proofs.Over.{eq_by_cmp-nat}
 
 -- how many keys below a number a map has
 count_keys : FinMap nat_cmp ℕ → ℕ → ℕ
@@ -42,16 +43,10 @@ none_from_without m n h q l =
       | false ↦ λ t. let e : n ≢ q = grind (arith, nat_tests) in let a : suc n ≤ q = grind arith in h q a
     ] refl
 
-same_test : (n q : ℕ) → (n == q) ≡ true → n ≡ q
-same_test n q t = grind (arith, nat_tests)
-
-test_same : (n : ℕ) → (n == n) ≡ true
-test_same n = grind (arith, nat_tests)
-
 without_none : (m : FinMap nat_cmp ℕ) (n : ℕ) → get m n ≡ None → remove m n ≡ m
 without_none m n gone = same_map nat_cmp_total nat_cmp-IsAntisymmetric _ _ (λ q.
     without_key m n q ∙ elim (n == q) as (λ t. (n == q) ≡ t → cond t None (get m q) ≡ get m q) [
-      | true ↦ λ t. let there : get m q ≡ None = rw (same_test n q t) at gone in sym there
+      | true ↦ λ t. let there : get m q ≡ None = rw (eqb-true n q t) at gone in sym there
       | false ↦ λ t. refl
     ] refl)
 
@@ -60,7 +55,7 @@ with_again m n v there = same_map nat_cmp_total nat_cmp-IsAntisymmetric _ _ (λ 
     let both : get (insert (remove m n) n v) q ≡ cond (n == q) (Some v) (cond (n == q) None (get m q)) =
     rw (get-insert nat_cmp_total, eq_by_cmp-nat, without_key m n q) refl in
     sym (both ∙ elim (n == q) as (λ t. (n == q) ≡ t → cond t (Some v) (cond t None (get m q)) ≡ get m q) [
-      | true ↦ λ t. let here : get m q ≡ Some v = rw (same_test n q t) at there in sym here
+      | true ↦ λ t. let here : get m q ≡ Some v = rw (eqb-true n q t) at there in sym here
       | false ↦ λ t. refl
     ] refl))
 
@@ -68,7 +63,7 @@ len_with : (m : FinMap nat_cmp ℕ) (n v : ℕ) → get m n ≡ None → len (in
 len_with m n v gone = len-insert nat_cmp_total m n v ∙ rw gone refl
 
 removed : (m : FinMap nat_cmp ℕ) (n : ℕ) → get (remove m n) n ≡ None
-removed m n = without_key m n n ∙ rw (test_same n) refl
+removed m n = without_key m n n ∙ rw (eqb-self n) refl
 
 len_step : (m : FinMap nat_cmp ℕ) (n : ℕ) (o : Option ℕ) → get m n ≡ o → len m ≡ len (remove m n) + cond (is_some o) 1 0
 len_step m n None e = sym (ap len (without_none m n e)) ∙ (let z : len (remove m n) + 0 ≡ len (remove m n) = omega arith in sym z)

@@ -1,5 +1,6 @@
 -- How many pages are owned: as many more as were shared.
 use Rattle.std.proofs.Common.{◌≡◌, ℕ, ◌+◌, ◌/◌, ◌==◌, Bool, true, false, cond, List, [], ◌∷◌, refl, ap, ap₂, sym, ◌∙◌, arith}
+use Rattle.std.proofs.lemmas.Bool.{eqb-true}
 use Rattle.std.specs.Prelude.{◌||◌, ◌&&◌, not, is_some}
 use Rattle.std.specs.List.{list_any}
 use Rattle.std.specs.FinMap.{get}
@@ -8,13 +9,9 @@ use Rattle.std.specs.FinSet.{nat_cmp-IsAntisymmetric}
 use Rattle.std.specs.FinSet as set
 use Rattle.std.specs.Cmp.{nat_cmp_total}
 use Rattle.std.specs.Ordering.{nat_cmp}
+use Rattle.plain_lemmas.proofs.Tests.{and-false, eq_by_cmp-nat}
 use Rattle.paged_memory.specs.PageTable.{PageTable, is_touched, OwnsAlso, shared_pages, owned_count}
-use Rattle.paged_memory.proofs.Over.{eq_by_cmp-nat}
-use Rattle.paged_memory.proofs.Owned.{same_page, or_true}
-
-and_false : (b : Bool) → (b && false) ≡ false
-and_false true = refl
-and_false false = refl
+use Rattle.paged_memory.proofs.Owned.{or_true}
 
 -- the pages of the bytes at these addresses besides those that are owned
 with_pages : PageTable → List ℕ → FinSet nat_cmp
@@ -47,7 +44,7 @@ contains-with_pages t [] n = refl
 contains-with_pages t (a ∷ addresses) n =
     one_page (is_some (get t.memory.perm (a / 4096))) (with_pages t addresses) (a / 4096) n
     (is_touched t.memory addresses n || contains t.owned n) (is_some (get t.memory.perm n)) (contains-with_pages t addresses n)
-    (λ is. ap (λ k. is_some (get t.memory.perm k)) (sym (same_page (a / 4096) n is)))
+    (λ is. ap (λ k. is_some (get t.memory.perm k)) (sym (eqb-true (a / 4096) n is)))
     ∙ or_both (a / 4096 == n) (list_any (λ x. x / 4096 == n) addresses) (is_some (get t.memory.perm n)) (contains t.owned n)
 
 one_shared : (there owned : Bool) (s : FinSet nat_cmp) (k n : ℕ) (any here was : Bool) → contains s n ≡ ((any && here) && not was)
@@ -61,13 +58,13 @@ one_shared true false s k n any here was e is was_is =
     ] refl
 one_shared true true s k n any here was e is was_is =
     e ∙ elim (k == n) as (λ t. (k == n) ≡ t → ((any && here) && not was) ≡ (((t || any) && here) && not was)) [
-      | true ↦ λ t. ap (λ w. (any && here) && not w) (was_is t) ∙ and_false (any && here)
-          ∙ sym (ap (λ w. here && not w) (was_is t) ∙ and_false here)
+      | true ↦ λ t. ap (λ w. (any && here) && not w) (was_is t) ∙ and-false (any && here)
+          ∙ sym (ap (λ w. here && not w) (was_is t) ∙ and-false here)
       | false ↦ λ t. refl
     ] refl
 one_shared false owned s k n any here was e is was_is =
     e ∙ elim (k == n) as (λ t. (k == n) ≡ t → ((any && here) && not was) ≡ (((t || any) && here) && not was)) [
-      | true ↦ λ t. ap (λ h. (any && h) && not was) (is t) ∙ ap (λ b. b && not was) (and_false any) ∙ sym (ap (λ h. h && not was) (is t))
+      | true ↦ λ t. ap (λ h. (any && h) && not was) (is t) ∙ ap (λ b. b && not was) (and-false any) ∙ sym (ap (λ h. h && not was) (is t))
       | false ↦ λ t. refl
     ] refl
 
@@ -78,8 +75,8 @@ contains-shared_pages t [] n = contains-empty nat_cmp n
 contains-shared_pages t (a ∷ addresses) n =
     one_shared (is_some (get t.memory.perm (a / 4096))) (contains t.owned (a / 4096)) (shared_pages t addresses) (a / 4096) n
     (list_any (λ x. x / 4096 == n) addresses) (is_some (get t.memory.perm n)) (contains t.owned n) (contains-shared_pages t addresses n)
-    (λ is. ap (λ k. is_some (get t.memory.perm k)) (sym (same_page (a / 4096) n is)))
-    (λ is. ap (contains t.owned) (sym (same_page (a / 4096) n is)))
+    (λ is. ap (λ k. is_some (get t.memory.perm k)) (sym (eqb-true (a / 4096) n is)))
+    (λ is. ap (contains t.owned) (sym (eqb-true (a / 4096) n is)))
 
 no_longer : (s : FinSet nat_cmp) (k : ℕ) → contains s k ≡ true → len (set.insert s k) ≡ len s
 no_longer s k e = len-insert nat_cmp_total s k ∙ ap (λ t. cond t (len s) (len s + 1)) e

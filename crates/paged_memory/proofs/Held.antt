@@ -7,19 +7,20 @@ use Rattle.std.proofs.lemmas.Bool.Decides.{nat_tests}
 use Rattle.std.proofs.lemmas.List.Elements.{recursion_from_All}
 use Rattle.std.proofs.lemmas.List.Sums.{sum_by-cons}
 use Rattle.std.proofs.lemmas.List.{get_or-set_same, length-set}
+use Rattle.std.proofs.lemmas.Bool.{eqb-true}
 use Rattle.std.specs.FinMap.{get, insert}
 use Rattle.std.specs.FinMap.Entries.{below_all, is_sorted}
 use Rattle.std.specs.FinSet.{FinSet, contains, contains-insert, contains-empty, same_set, nat_cmp-IsAntisymmetric, len, len-empty, len-insert}
 use Rattle.std.specs.FinSet as fin
 use Rattle.std.specs.Cmp.{nat_cmp_total}
 use Rattle.std.specs.Ordering.{nat_cmp, is_lt, eq_by_cmp}
+use Rattle.plain_lemmas.proofs.Tests.{and_second, and_first, eq_by_cmp-nat}
 use Rattle.paged_memory.specs.declared.page.Page.{Page}
 use Rattle.paged_memory.specs.Memory.{set_bytes}
 use Rattle.paged_memory.specs.PageTable.{IsOwned}
 use Rattle.paged_memory.specs.Pages.{page_entry, page_at, mem_of, perm_of, own_numbers, memory_of, table_of, IsFine, AreHeld}
-use Rattle.paged_memory.proofs.Over.{eq_by_cmp-nat}
 use Rattle.paged_memory.proofs.Bytes.{get-perm_of}
-use Rattle.paged_memory.proofs.Order.{and_first, and_second, found_at}
+use Rattle.paged_memory.proofs.Order.{found_at}
 use Rattle.paged_memory.proofs.Set.{page_at-set, found_number, found_page}
 use Rattle.paged_memory.proofs.Owned.{or_true}
 
@@ -27,9 +28,6 @@ use Rattle.paged_memory.proofs.Owned.{or_true}
 abbrev pub owned_in : Option Page → Bool
 owned_in None = false
 owned_in (Some p) = p.bytes.own
-
-same_number : (k n : ℕ) → (k == n) ≡ true → k ≡ n
-same_number k n t = grind (arith, nat_tests)
 
 later_number : (k n : ℕ) → is_lt (nat_cmp k n) ≡ true → (n == k) ≡ false
 later_number k n h = grind (arith, nat_tests)
@@ -61,7 +59,7 @@ unfolding own_numbers
 contains-own_numbers [] n h = contains-empty nat_cmp n
 contains-own_numbers (p ∷ ps) n h =
     owned_step p.bytes.own (own_numbers ps) p (page_at ps n) n refl (contains-own_numbers ps n (and_second _ _ h))
-    (λ t. subst (λ k. page_at ps k ≡ None) (same_number p.number n t) (none_later ps p.number (and_first _ _ h)))
+    (λ t. subst (λ k. page_at ps k ≡ None) (eqb-true p.number n t) (none_later ps p.number (and_first _ _ h)))
 
 -- ---- one page that is changed
 
@@ -172,14 +170,6 @@ len-own_numbers (p ∷ ps) h =
     ∙ sym (sum_by-cons (λ p. cond p.bytes.own 1 0) p ps)
 
 -- ---- what an answer gives
-
-pub ok_gives : {V E : Type 0} {P Q : Type 0} (r : Result V E) → (P → Q) → OnOk r P → OnOk r Q
-ok_gives (Ok v) gives p = gives p
-ok_gives (Err e) gives p = tt
-
-pub err_gives : {V E : Type 0} {P Q : Type 0} (r : Result V E) → (P → Q) → OnErr r P → OnErr r Q
-err_gives (Ok v) gives p = tt
-err_gives (Err e) gives p = gives p
 
 -- what an answer that is an error shows to be false
 pub answer_is_ok : {V E : Type 0} (r : Result V E) (b : Bool) → OnErr r (b ≡ false) → b ≡ true → IsTrue (is_ok r)

@@ -9,12 +9,13 @@ use Rattle.std.specs.Cmp.{nat_cmp_total}
 use Rattle.std.specs.Ordering.{nat_cmp, is_lt}
 use Rattle.std.proofs.lemmas.Bool.Decides.{nat_tests}
 use Rattle.std.proofs.lemmas.List.Elements.{recursion_from_All, All-append, All-cons, All-take, All-drop}
+use Rattle.std.proofs.lemmas.Bool.{and_from}
+use Rattle.plain_lemmas.proofs.Tests.{and_second, and_first, eq_by_cmp-nat}
 use Rattle.paged_memory.specs.declared.page.Page.{Page}
 use Rattle.paged_memory.specs.Memory.{AddressSpace, with_page}
 use Rattle.paged_memory.specs.Pages.{page_entry, page_at, perm_of, memory_of, IsFine}
-use Rattle.paged_memory.proofs.Over.{over, eq_by_cmp-nat, get-set_bytes}
+use Rattle.paged_memory.proofs.Over.{over, get-set_bytes}
 use Rattle.paged_memory.proofs.Bytes.{bind, get-perm_of, get-mem_of, get_mem_step, get_perm_step}
-use Rattle.paged_memory.proofs.Order.{and_first, and_second, and_both}
 
 absent : (o : Option Page) → option_map (λ p. p.flags) o ≡ None → o ≡ None
 absent None h = refl
@@ -50,10 +51,10 @@ All-insert P ps i p all here =
 
 below_all-insert : (k : ℕ) (ps : List Page) (i : ℕ) (p : Page) → below_all nat_cmp k (map page_entry ps) ≡ true
     → is_lt (nat_cmp k p.number) ≡ true → below_all nat_cmp k (map page_entry (insert ps i p)) ≡ true
-below_all-insert k [] zero p h l = and_both _ _ l refl
-below_all-insert k [] (suc i) p h l = and_both _ _ l refl
-below_all-insert k (e ∷ ps) zero p h l = and_both _ _ l h
-below_all-insert k (e ∷ ps) (suc i) p h l = and_both _ _ (and_first _ _ h) (below_all-insert k ps i p (and_second _ _ h) l)
+below_all-insert k [] zero p h l = and_from _ _ l refl
+below_all-insert k [] (suc i) p h l = and_from _ _ l refl
+below_all-insert k (e ∷ ps) zero p h l = and_from _ _ l h
+below_all-insert k (e ∷ ps) (suc i) p h l = and_from _ _ (and_first _ _ h) (below_all-insert k ps i p (and_second _ _ h) l)
 
 number_less : (k n : ℕ) → k < n → is_lt (nat_cmp k n) ≡ true
 number_less k n h = grind (arith, nat_tests)
@@ -62,16 +63,16 @@ below_all-pages : (k : ℕ) (ps : List Page) → ((j : ℕ) (d : Page) → j < l
     → below_all nat_cmp k (map page_entry ps) ≡ true
 below_all-pages k [] h = refl
 below_all-pages k (p ∷ ps) h =
-    and_both _ _ (number_less k p.number (h 0 p (omega arith))) (below_all-pages k ps (λ j d l. h (suc j) d (omega arith)))
+    and_from _ _ (number_less k p.number (h 0 p (omega arith))) (below_all-pages k ps (λ j d l. h (suc j) d (omega arith)))
 
 sorted-insert : (ps : List Page) (i : ℕ) (p : Page) → is_sorted nat_cmp (map page_entry ps) ≡ true → i ≤ length ps
     → ((k : ℕ) (d : Page) → k < i → (get_or ps k d).number < p.number)
     → ((k : ℕ) (d : Page) → i ≤ k → k < length ps → p.number < (get_or ps k d).number)
     → is_sorted nat_cmp (map page_entry (insert ps i p)) ≡ true
-sorted-insert ps zero p h l below above = and_both _ _ (below_all-pages p.number ps (λ j d m. above j d (omega arith) m)) h
+sorted-insert ps zero p h l below above = and_from _ _ (below_all-pages p.number ps (λ j d m. above j d (omega arith) m)) h
 sorted-insert [] (suc i) p h l below above = absurd (omega arith)
 sorted-insert (e ∷ ps) (suc i) p h l below above =
-    and_both _ _ (below_all-insert e.number ps i p (and_first _ _ h) (number_less e.number p.number (below 0 e (omega arith))))
+    and_from _ _ (below_all-insert e.number ps i p (and_first _ _ h) (number_less e.number p.number (below 0 e (omega arith))))
     (sorted-insert ps i p (and_second _ _ h) (omega arith) (λ k d m. below (suc k) d (omega arith))
     (λ k d m n. above (suc k) d (omega arith) (omega arith)))
 

@@ -20,3 +20,4 @@ pub mod Listed
 pub mod Written
 pub mod Permitted
 pub mod Ready
+pub mod Within

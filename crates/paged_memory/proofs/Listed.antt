@@ -1,6 +1,6 @@
 -- The pages that are made of a list.
-use Rattle.std.proofs.Common.{◌≡◌, ◌≢◌, ℕ, zero, suc, ◌+◌, ◌*◌, ◌/◌, ◌%◌, ◌^◌, ◌<◌, List, [], ◌∷◌, ◌++◌, length, get_or, take, refl}
-use Rattle.std.proofs.Common.{ap, sym, ◌∙◌, subst, arith, All, None, option_map}
+use Rattle.std.proofs.Common.{◌≡◌, ℕ, zero, suc, ◌+◌, ◌*◌, ◌/◌, ◌%◌, ◌^◌, ◌<◌, List, [], ◌∷◌, ◌++◌, length, get_or, take, refl}
+use Rattle.std.proofs.Common.{ap, sym, ◌∙◌, subst, arith, All, None, option_map, ne_of_lt}
 use Rattle.std.specs.Prelude.{map}
 use Rattle.std.specs.FinMap.{get, entries}
 use Rattle.std.proofs.lemmas.List.{take_more, get_or-take, length-take-le}
@@ -39,9 +39,6 @@ made_of-more list i p l is =
 less_pages : (a b : ℕ) → a % 4096 ≡ 0 → b % 4096 ≡ 0 → a < b → a / 4096 < b / 4096
 less_pages a b h k l = omega arith
 
-apart_below : (m n : ℕ) → m < n → m ≢ n
-apart_below m n l = grind arith
-
 -- all those before one have a lower number
 made_below : (list : List PageImage) (i : ℕ) (p : PageImage) → IsPageList list → i < length list → p ≡ get_or list i p
     → (k : ℕ) (d : Page) → k < i → (get_or (map page_made (take i list)) k d).number < (page_made p).number
@@ -65,7 +62,7 @@ fine_more list i p good l is low fine =
     → (get_or (map page_made (take i list)) k d).number < p.address / 4096 =
     λ k d m. made_below list i p good l is k d (rw long at m) in
     let none : page_at (map page_made (take i list)) (p.address / 4096) ≡ None =
-    page_at-none (map page_made (take i list)) (p.address / 4096) (λ k d m. apart_below _ _ (below k d m)) in
+    page_at-none (map page_made (take i list)) (p.address / 4096) (λ k d m. ne_of_lt (below k d m)) in
     let missing : get (perm_of (map page_made (take i list))) (p.address / 4096) ≡ None =
     get-perm_of (map page_made (take i list)) (p.address / 4096) ∙ ap (option_map (λ x. x.flags)) none in
     subst IsFine (insert_end (map page_made (take i list)) (page_made p))

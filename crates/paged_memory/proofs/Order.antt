@@ -1,9 +1,9 @@
 -- The order of pages by their numbers.
-use Rattle.std.proofs.Common.{◌⊎◌, inl, inr, ◌≡◌, ◌≢◌, ℕ, zero, suc, ◌+◌, ◌<◌, ◌≤◌, Bool, true, false, List, [], ◌∷◌, length, get_or, refl}
-use Rattle.std.proofs.Common.{ap, sym, ◌∙◌, arith, Some, None, slice_get}
-use Rattle.std.specs.Prelude.{◌==◌, ◌&&◌, map}
+use Rattle.std.proofs.Common.{◌⊎◌, inl, inr, ◌≡◌, ◌≢◌, ℕ, zero, suc, ◌+◌, ◌<◌, ◌≤◌, true, false, List, [], ◌∷◌, length, get_or, refl}
+use Rattle.std.proofs.Common.{ap, sym, ◌∙◌, arith, Some, None, slice_get, ne_of_lt}
+use Rattle.std.specs.Prelude.{◌==◌, map}
 use Rattle.std.proofs.lemmas.Bool.Decides.{nat_tests}
-use Rattle.std.proofs.lemmas.List.{get_or_default}
+use Rattle.std.proofs.lemmas.List.{get_or_default, nil_from_length}
 use Rattle.std.proofs.lemmas.Option.{slice_get-get_or}
 use Rattle.std.specs.FinMap.{entries, entries-insert, len, len-entries, len-empty, empty}
 use Rattle.std.specs.FinMap.Entries.{by_order, below_all, put, is_sorted}
@@ -11,21 +11,11 @@ use Rattle.std.specs.Cmp.{nat_cmp_total}
 use Rattle.std.specs.Ordering.{nat_cmp, is_lt}
 use Rattle.std.specs.declared.cmp.Ordering.{Ordering}
 use Rattle.std.specs.declared.cmp.Ordering.TheVariants.{Less, Equal, Greater}
+use Rattle.plain_lemmas.proofs.Tests.{is_lt-true, and_second, and_first}
+use Rattle.plain_lemmas.proofs.Numbers.{cases_lt_eq_gt}
 use Rattle.paged_memory.specs.declared.page.Page.{Page}
 use Rattle.paged_memory.specs.Memory.{AddressSpace}
 use Rattle.paged_memory.specs.Pages.{page_entry, page_at, perm_of, memory_of, IsFine}
-
-pub and_first : (a b : Bool) → (a && b) ≡ true → a ≡ true
-and_first true b h = refl
-and_first false b h = cc
-
-pub and_second : (a b : Bool) → (a && b) ≡ true → b ≡ true
-and_second true b h = h
-and_second false b h = cc
-
-pub and_both : (a b : Bool) → a ≡ true → b ≡ true → (a && b) ≡ true
-and_both true b h k = k
-and_both false b h k = cc
 
 put_less : (k v : ℕ) (e : ℕ × ℕ) (es : List (ℕ × ℕ)) (o : Ordering) → is_lt o ≡ true
     → by_order o ((k, v) ∷ e ∷ es) ((e.0, v) ∷ es) (e ∷ put nat_cmp k v es) ≡ (k, v) ∷ e ∷ es
@@ -40,13 +30,9 @@ put-first : (k v : ℕ) (es : List (ℕ × ℕ)) → below_all nat_cmp k es ≡ 
 put-first k v [] h = refl
 put-first k v (e ∷ es) h = put_less k v e es (nat_cmp k e.0) (and_first _ _ h)
 
-none_of_length : (es : List (ℕ × ℕ)) → length es ≡ 0 → es ≡ []
-none_of_length [] h = refl
-none_of_length (e ∷ es) h = absurd (omega arith)
-
 pub entries-perm_of : (ps : List Page) → is_sorted nat_cmp (map page_entry ps) ≡ true → entries (perm_of ps) ≡ map page_entry ps
 unfolding perm_of
-entries-perm_of [] h = none_of_length (entries empty) (sym (len-entries empty) ∙ len-empty nat_cmp ℕ)
+entries-perm_of [] h = nil_from_length (entries empty) (sym (len-entries empty) ∙ len-empty nat_cmp ℕ)
 entries-perm_of (p ∷ ps) h =
     entries-insert nat_cmp_total (perm_of ps) p.number p.flags ∙ ap (put nat_cmp p.number p.flags) (entries-perm_of ps (and_second _ _ h))
     ∙ put-first p.number p.flags (map page_entry ps) (and_first _ _ h)
@@ -82,14 +68,11 @@ len-perm_of ps m fine e = rw (← e) (len-entries (perm_of ps) ∙ ap length (en
 pub same_count : (ps qs : List Page) → IsFine ps → IsFine qs → perm_of qs ≡ perm_of ps → length qs ≡ length ps
 same_count ps qs fine fine' e = sym (len-perm_of qs (memory_of qs) fine' refl) ∙ ap len e ∙ len-perm_of ps (memory_of ps) fine refl
 
-less_number : (k n : ℕ) → is_lt (nat_cmp k n) ≡ true → k < n
-less_number k n h = grind (arith, nat_tests)
-
 -- the numbers rise
 later_above : (k : ℕ) (ps : List Page) (i : ℕ) (d : Page) → below_all nat_cmp k (map page_entry ps) ≡ true → i < length ps
     → k < (get_or ps i d).number
 later_above k [] i d h l = absurd (omega arith)
-later_above k (p ∷ ps) zero d h l = less_number k p.number (and_first _ _ h)
+later_above k (p ∷ ps) zero d h l = is_lt-true k p.number (and_first _ _ h)
 later_above k (p ∷ ps) (suc i) d h l = later_above k ps i d (and_second _ _ h) (omega arith)
 
 pub numbers_rise : (ps : List Page) (i j : ℕ) (d e : Page) → is_sorted nat_cmp (map page_entry ps) ≡ true → i < j → j < length ps
@@ -132,12 +115,6 @@ page_at-none (p ∷ ps) n h =
     let apart : (p.number == n) ≡ false = grind (arith, nat_tests) in
     rw apart (page_at-none ps n (λ k d l. h (suc k) d (omega arith)))
 
-place_of : (k i : ℕ) → (k < i) ⊎ ((k ≡ i) ⊎ (i < k))
-place_of k i = grind arith
-
-number_below_apart : (m n : ℕ) → m < n → m ≢ n
-number_below_apart m n l = grind arith
-
 number_above_apart : (m n : ℕ) → n < m → m ≢ n
 number_above_apart m n l = grind arith
 
@@ -152,8 +129,8 @@ pub not_found : (ps : List Page) (i n : ℕ) → IsFine ps → ((k : ℕ) (d : P
     → ((k : ℕ) (d : Page) → i ≤ k → k < length ps → n ≤ (get_or ps k d).number)
     → ((d : Page) → i < length ps → (get_or ps i d).number ≢ n) → page_at ps n ≡ None
 not_found ps i n fine below rest here = page_at-none ps n (λ k d l.
-    elim (place_of k i) [
-      | inl b ↦ let lower : (get_or ps k d).number < n = below k d b in number_below_apart _ n lower
+    elim (cases_lt_eq_gt k i) [
+      | inl b ↦ let lower : (get_or ps k d).number < n = below k d b in ne_of_lt lower
       | inr r ↦ elim r [
         | inl e ↦ rw e (here d (rw (← e) l))
         | inr a ↦

@@ -5,9 +5,11 @@ use Rattle.std.specs.Prelude.{◌==◌, ◌&&◌, nat_lt, nat_le}
 use Rattle.std.proofs.lemmas.Grind.{common_steps}
 use Rattle.std.proofs.lemmas.List.{take-append-drop, take-take, drop-take, length-take-le}
 use Rattle.std.proofs.lemmas.Bool.Decides.{nat_tests}
+use Rattle.std.proofs.lemmas.Bool.{eq-eqb, ne_eqb, cases_lt}
 use Rattle.std.specs.FinMap.{FinMap, get, insert, get-insert}
 use Rattle.std.specs.Cmp.{nat_cmp_total}
-use Rattle.std.specs.Ordering.{nat_cmp, eq_by_cmp}
+use Rattle.std.specs.Ordering.{nat_cmp}
+use Rattle.plain_lemmas.proofs.Tests.{eq_by_cmp-nat}
 use Rattle.paged_memory.specs.Memory.{set_bytes}
 
 -- the byte of a list that lies from an address on, where it has one, else what was there
@@ -44,12 +46,6 @@ over-below start bs a old l = let e : (nat_le start a && nat_lt a (start + lengt
 pub over-above : (start : ℕ) (bs : List ℕ) (a : ℕ) (old : Option ℕ) → start + length bs ≤ a → over start bs a old ≡ old
 over-above start bs a old l = let e : (nat_le start a && nat_lt a (start + length bs)) ≡ false = grind (arith, nat_tests) in rw e refl
 
-pub low_or : (a b : ℕ) → (a < b) ⊎ (b ≤ a)
-low_or a b = grind arith
-
-pub eq_by_cmp-nat : (q k : ℕ) → eq_by_cmp nat_cmp q k ≡ (k == q)
-eq_by_cmp-nat q k = grind (arith, nat_tests)
-
 place_of : (q a : ℕ) → (q < a) ⊎ ((a ≡ q) ⊎ (a < q))
 place_of q a = grind arith
 
@@ -59,24 +55,18 @@ slice_get-later b bs a q h = let e : q - a ≡ suc (q - (a + 1)) = omega arith i
 slice_get-now : (b : ℕ) (bs : List ℕ) (a q : ℕ) → a ≡ q → slice_get (b ∷ bs) (q - a) ≡ Some b
 slice_get-now b bs a q h = let e : q - a ≡ 0 = omega arith in rw e refl
 
-apart_test : (a q : ℕ) → a ≢ q → (a == q) ≡ false
-apart_test a q h = grind (arith, nat_tests)
-
-same_test : (a q : ℕ) → a ≡ q → (a == q) ≡ true
-same_test a q h = grind (arith, nat_tests)
-
 -- one byte, and the rest after it
 over-cons : (a b : ℕ) (bs : List ℕ) (q : ℕ) (old : Option ℕ) → over (a + 1) bs q (cond (a == q) (Some b) old) ≡ over a (b ∷ bs) q old
 over-cons a b bs q old =
     elim (place_of q a) [
-      | inl l ↦ over-below (a + 1) bs q _ (omega arith) ∙ rw (apart_test a q (omega arith)) (sym (over-below a (b ∷ bs) q old l))
+      | inl l ↦ over-below (a + 1) bs q _ (omega arith) ∙ rw (ne_eqb a q (omega arith)) (sym (over-below a (b ∷ bs) q old l))
       | inr r ↦ elim r [
         | inl e ↦ over-below (a + 1) bs q _ (omega arith)
-            ∙ rw (same_test a q e) (sym (over-inside a (b ∷ bs) q old (omega arith) (omega arith) ∙ slice_get-now b bs a q e))
-        | inr g ↦ elim (low_or q (a + 1 + length bs)) [
+            ∙ rw (eq-eqb a q e) (sym (over-inside a (b ∷ bs) q old (omega arith) (omega arith) ∙ slice_get-now b bs a q e))
+        | inr g ↦ elim (cases_lt q (a + 1 + length bs)) [
           | inl l ↦ over-inside (a + 1) bs q _ (omega arith) l
               ∙ sym (over-inside a (b ∷ bs) q old (omega arith) (omega arith) ∙ slice_get-later b bs a q g)
-          | inr m ↦ over-above (a + 1) bs q _ m ∙ rw (apart_test a q (omega arith)) (sym (over-above a (b ∷ bs) q old (omega arith)))
+          | inr m ↦ over-above (a + 1) bs q _ m ∙ rw (ne_eqb a q (omega arith)) (sym (over-above a (b ∷ bs) q old (omega arith)))
         ]
       ]
     ]
@@ -84,7 +74,7 @@ over-cons a b bs q old =
 pub get-set_bytes : (m : FinMap nat_cmp ℕ) (a : ℕ) (bs : List ℕ) (q : ℕ) → a + length bs ≤ 2 ^ 64
     → get (set_bytes m a bs) q ≡ over a bs q (get m q)
 unfolding set_bytes
-get-set_bytes m a [] q h = sym (elim (low_or q a) [ inl l ↦ over-below a [] q _ l | inr g ↦ over-above a [] q _ (omega arith) ])
+get-set_bytes m a [] q h = sym (elim (cases_lt q a) [ inl l ↦ over-below a [] q _ l | inr g ↦ over-above a [] q _ (omega arith) ])
 get-set_bytes m a (b ∷ bs) q h =
     let low : a % 2 ^ 64 ≡ a = omega arith in
     let more : (a + 1) + length bs ≤ 2 ^ 64 = omega arith in
@@ -95,7 +85,7 @@ get-set_bytes m a (b ∷ bs) q h =
 pub get-set_bytes-low : (m : FinMap nat_cmp ℕ) (a : ℕ) (bs : List ℕ) (q : ℕ) → (0 < length bs → a + length bs < 2 ^ 64)
     → get (set_bytes m a bs) q ≡ over a bs q (get m q)
 unfolding set_bytes
-get-set_bytes-low m a [] q h = sym (elim (low_or q a) [ inl l ↦ over-below a [] q _ l | inr g ↦ over-above a [] q _ (omega arith) ])
+get-set_bytes-low m a [] q h = sym (elim (cases_lt q a) [ inl l ↦ over-below a [] q _ l | inr g ↦ over-above a [] q _ (omega arith) ])
 get-set_bytes-low m a (b ∷ bs) q h =
     let low : a + length (b ∷ bs) < 2 ^ 64 = h (omega arith) in
     get-set_bytes m a (b ∷ bs) q (omega arith)
@@ -118,14 +108,14 @@ pub slice_get-run : (xs bs : List ℕ) (i k : ℕ) → i + length bs ≤ length 
     → slice_get (take i xs ++ (bs ++ drop (i + length bs) xs)) k ≡ over i bs k (slice_get xs k)
 slice_get-run xs bs i k h =
     let front : length (take i xs) ≡ i = grind (arith, common_steps) in
-    elim (low_or k i) [
+    elim (cases_lt k i) [
       | inl l ↦ slice_get-left (take i xs) (bs ++ drop (i + length bs) xs) k (rw front l) ∙ slice_get-take xs i k l
           ∙ sym (over-below i bs k _ l)
       | inr g ↦
           let e : length (take i xs) + (k - i) ≡ k = rw front (omega arith) in
           let right : slice_get (take i xs ++ (bs ++ drop (i + length bs) xs)) k ≡ slice_get (bs ++ drop (i + length bs) xs) (k - i) =
           rw e at (slice_get-right (take i xs) (bs ++ drop (i + length bs) xs) (k - i)) in
-          elim (low_or k (i + length bs)) [
+          elim (cases_lt k (i + length bs)) [
             | inl l ↦ right ∙ slice_get-left bs (drop (i + length bs) xs) (k - i) (omega arith) ∙ sym (over-inside i bs k _ g l)
             | inr m ↦
                 let e2 : length bs + (k - (i + length bs)) ≡ k - i = omega arith in
@@ -139,9 +129,9 @@ slice_get-run xs bs i k h =
 -- the same, counted from the start of the page
 pub over_shift : (s : ℕ) (bs : List ℕ) (a : ℕ) (old : Option ℕ) → s / 4096 ≡ a / 4096 → over (s % 4096) bs (a % 4096) old ≡ over s bs a old
 over_shift s bs a old h =
-    elim (low_or a s) [
+    elim (cases_lt a s) [
       | inl l ↦ over-below (s % 4096) bs (a % 4096) old (omega arith) ∙ sym (over-below s bs a old l)
-      | inr g ↦ elim (low_or a (s + length bs)) [
+      | inr g ↦ elim (cases_lt a (s + length bs)) [
         | inl l ↦ over-inside (s % 4096) bs (a % 4096) old (omega arith) (omega arith)
             ∙ (let e : a % 4096 - s % 4096 ≡ a - s = omega arith in ap (slice_get bs) e) ∙ sym (over-inside s bs a old g l)
         | inr m ↦ over-above (s % 4096) bs (a % 4096) old (omega arith) ∙ sym (over-above s bs a old m)
@@ -174,10 +164,6 @@ take_add d n bs = sym (take-append-drop d (take (d + n) bs)) ∙ rw (take-take d
 pub set_bytes-none : (m : FinMap nat_cmp ℕ) (a : ℕ) → m ≡ set_bytes m a []
 unfolding set_bytes
 set_bytes-none m a = refl
-
-pub no_bytes : (bs : List ℕ) → length bs ≡ 0 → bs ≡ []
-no_bytes [] h = refl
-no_bytes (b ∷ bs) h = absurd (omega arith)
 
 -- one more run of the bytes of a list
 pub set_bytes-more : (m now new : FinMap nat_cmp ℕ) (a d n : ℕ) (bs : List ℕ) → d ≤ length bs → now ≡ set_bytes m a (take d bs)

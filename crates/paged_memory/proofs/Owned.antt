@@ -9,9 +9,9 @@ use Rattle.std.specs.FinMap.{get}
 use Rattle.std.specs.FinSet.{contains, contains-insert}
 use Rattle.std.specs.FinSet as set
 use Rattle.std.specs.Cmp.{nat_cmp_total}
+use Rattle.plain_lemmas.proofs.Tests.{eq_by_cmp-nat}
 use Rattle.paged_memory.specs.Memory.{run_of}
 use Rattle.paged_memory.specs.PageTable.{PageTable, AreOwned, IsOwned, is_touched, OwnsAlso, IsRefused, Owns, KeepsOwned}
-use Rattle.paged_memory.proofs.Over.{eq_by_cmp-nat}
 
 -- where no byte is written, no more pages are owned
 pub owns_none : {Value Stop Cause : Type 0} (cause_of : Stop → Option Cause) (t : PageTable) (r : Result Value Stop)
@@ -216,9 +216,6 @@ touched_page true true owned is = refl
 touched_page true false owned is = sym (ap (λ b. b || owned) (is refl))
 touched_page false there owned is = refl
 
-pub same_page : (k n : ℕ) → (k == n) ≡ true → k ≡ n
-same_page k n t = eqb-true k n t
-
 -- the page of a run within it is owned besides
 pub owns_page : (old new : PageTable) (a n : ℕ) → a < 2 ^ 64 → 0 < n → a % 4096 + n ≤ 4096 → IsSome (get old.memory.perm (a / 4096))
     → new.owned ≡ set.insert old.owned (a / 4096) → OwnsAlso old new (run_of a n)
@@ -226,7 +223,7 @@ owns_page old new a n low some fits there is number =
     ap (λ s. contains s number) is ∙ contains-insert nat_cmp_total old.owned (a / 4096) number
     ∙ ap (λ b. b || contains old.owned number) (eq_by_cmp-nat number (a / 4096))
     ∙ touched_page (a / 4096 == number) (is_some (get old.memory.perm number)) (contains old.owned number)
-    (λ t. subst (λ k. is_some (get old.memory.perm k) ≡ true) (same_page (a / 4096) number t) there)
+    (λ t. subst (λ k. is_some (get old.memory.perm k) ≡ true) (eqb-true (a / 4096) number t) there)
     ∙ ap (λ b. (b && is_some (get old.memory.perm number)) || contains old.owned number) (sym (run_page a n number low some fits))
 
 untouched_page : (here there owned : Bool) → (here ≡ true → there ≡ false) → owned ≡ ((here && there) || owned)
@@ -239,5 +236,5 @@ pub owns_no_page : (t : PageTable) (a n : ℕ) → a < 2 ^ 64 → 0 < n → a % 
     → OwnsAlso t t (run_of a n)
 owns_no_page t a n low some fits gone number =
     untouched_page (a / 4096 == number) (is_some (get t.memory.perm number)) (contains t.owned number)
-    (λ is. ap is_some (subst (λ k. get t.memory.perm k ≡ None) (same_page (a / 4096) number is) gone))
+    (λ is. ap is_some (subst (λ k. get t.memory.perm k ≡ None) (eqb-true (a / 4096) number is) gone))
     ∙ ap (λ b. (b && is_some (get t.memory.perm number)) || contains t.owned number) (sym (run_page a n number low some fits))

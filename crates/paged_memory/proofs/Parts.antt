@@ -3,14 +3,15 @@ use Rattle.std.proofs.Common.{inl, inr, ◌≡◌, ℕ, zero, suc, ◌+◌, ◌-
 use Rattle.std.proofs.Common.{map, refl, ap, sym, ◌∙◌, arith, Option, Some, None, slice_get, All}
 use Rattle.std.specs.Prelude.{◌&&◌, nat_le, nat_lt, IsSome}
 use Rattle.std.proofs.lemmas.Bool.Decides.{nat_tests}
-use Rattle.std.proofs.lemmas.Option.{slice_get-get_or}
+use Rattle.std.proofs.lemmas.Option.{slice_get-get_or, slice_get_past}
+use Rattle.std.proofs.lemmas.Bool.{cases_lt}
 use Rattle.paged_memory.specs.declared.image.Part.{Part}
 use Rattle.std.specs.Option.{option_or}
 use Rattle.paged_memory.specs.Image.{Extent, extent_of, union, part_flags, image_flags, part_byte, parts_byte, image_byte, or_zero, zero_in}
 use Rattle.std.specs.FinMap.{get}
 use Rattle.paged_memory.specs.Memory.{AddressSpace}
 use Rattle.paged_memory.specs.Parts.{IsPlaced, AreApart, AreMapped}
-use Rattle.paged_memory.proofs.Over.{over, low_or, over-below, over-above, over-inside}
+use Rattle.paged_memory.proofs.Over.{over, over-below, over-above, over-inside}
 
 -- ---- the list of extents
 
@@ -97,23 +98,18 @@ part_byte-below p a h = let e : (nat_le p.address a && nat_lt a (p.address + p.s
 part_byte-above : (p : Extent) (a : ℕ) → p.address + p.size ≤ a → part_byte p a ≡ None
 part_byte-above p a h = let e : (nat_le p.address a && nat_lt a (p.address + p.size)) ≡ false = grind (arith, nat_tests) in rw e refl
 
-slice_get_past : (bs : List ℕ) (k : ℕ) → length bs ≤ k → slice_get bs k ≡ None
-slice_get_past [] k h = refl
-slice_get_past (b ∷ bs) zero h = absurd (omega arith)
-slice_get_past (b ∷ bs) (suc k) h = slice_get_past bs k (omega arith)
-
 -- the bytes of a part put over those of the parts after it
 pub part_put : (p : Extent) (rest : List Extent) (a : ℕ) (z old new : Option ℕ) → length p.bytes ≤ p.size
     → (IsSome (part_byte p a) → parts_byte rest a ≡ None) → (p.address ≤ a → a < p.address + p.size → z ≡ Some 0)
     → old ≡ option_or (parts_byte rest a) z → new ≡ over p.address p.bytes a old
     → new ≡ option_or (option_or (part_byte p a) (parts_byte rest a)) z
 part_put p rest a z old new fits apart there before is =
-    elim (low_or a p.address) [
+    elim (cases_lt a p.address) [
       | inl l ↦ is ∙ over-below p.address p.bytes a old l ∙ before ∙ sym (rw (part_byte-below p a l) refl)
-      | inr g ↦ elim (low_or a (p.address + p.size)) [
+      | inr g ↦ elim (cases_lt a (p.address + p.size)) [
         | inl m ↦
             let mine : part_byte p a ≡ Some (or_zero (slice_get p.bytes (a - p.address))) = part_byte-inside p a g m in
-            elim (low_or a (p.address + length p.bytes)) [
+            elim (cases_lt a (p.address + length p.bytes)) [
               | inl b ↦
                   let byte : slice_get p.bytes (a - p.address) ≡ Some (get_or p.bytes (a - p.address) 0) =
                   slice_get-get_or p.bytes (a - p.address) 0 (omega arith) in

@@ -6,16 +6,18 @@ use Rattle.std.proofs.lemmas.Bool.Decides.{nat_tests}
 use Rattle.std.proofs.lemmas.Grind.{common_steps}
 use Rattle.std.proofs.lemmas.List.Elements.{recursion_from_All, All-set}
 use Rattle.std.proofs.lemmas.Option.{slice_get-get_or}
+use Rattle.std.proofs.lemmas.Bool.{and_from, cases_lt}
 use Rattle.std.specs.FinMap.{get, same_map, nat_cmp-IsAntisymmetric}
 use Rattle.std.specs.FinMap.Entries.{below_all, is_sorted}
 use Rattle.std.specs.Cmp.{nat_cmp_total}
 use Rattle.std.specs.Ordering.{nat_cmp, is_lt}
+use Rattle.plain_lemmas.proofs.Tests.{and_second, and_first}
 use Rattle.paged_memory.specs.declared.page.Page.{Page}
 use Rattle.paged_memory.specs.Memory.{set_bytes}
 use Rattle.paged_memory.specs.Pages.{page_entry, page_at, mem_of, perm_of, IsFine}
-use Rattle.paged_memory.proofs.Over.{over, low_or, apart, over-below, over-above, over_shift, slice_get-run, get-set_bytes}
+use Rattle.paged_memory.proofs.Over.{over, apart, over-below, over-above, over_shift, slice_get-run, get-set_bytes}
 use Rattle.paged_memory.proofs.Bytes.{bind, get-perm_of, get-mem_of}
-use Rattle.paged_memory.proofs.Order.{and_first, and_second, and_both, later_apart}
+use Rattle.paged_memory.proofs.Order.{later_apart}
 
 pub page_at-set : (ps : List Page) (i : ℕ) (new d : Page) (n : ℕ) → is_sorted nat_cmp (map page_entry ps) ≡ true → i < length ps
     → new.number ≡ (get_or ps i d).number
@@ -41,17 +43,17 @@ below_all-set : (k : ℕ) (ps : List Page) (i : ℕ) (new d : Page) → i < leng
     → below_all nat_cmp k (map page_entry ps) ≡ true → below_all nat_cmp k (map page_entry (set ps i new)) ≡ true
 below_all-set k [] i new d l e h = h
 below_all-set k (p ∷ ps) zero new d l e h =
-    let first : is_lt (nat_cmp k new.number) ≡ true = rw e (and_first _ _ h) in and_both _ _ first (and_second _ _ h)
+    let first : is_lt (nat_cmp k new.number) ≡ true = rw e (and_first _ _ h) in and_from _ _ first (and_second _ _ h)
 below_all-set k (p ∷ ps) (suc i) new d l e h =
-    and_both _ _ (and_first _ _ h) (below_all-set k ps i new d (omega arith) e (and_second _ _ h))
+    and_from _ _ (and_first _ _ h) (below_all-set k ps i new d (omega arith) e (and_second _ _ h))
 
 sorted-set : (ps : List Page) (i : ℕ) (new d : Page) → i < length ps → new.number ≡ (get_or ps i d).number
     → is_sorted nat_cmp (map page_entry ps) ≡ true → is_sorted nat_cmp (map page_entry (set ps i new)) ≡ true
 sorted-set [] i new d l e h = h
 sorted-set (p ∷ ps) zero new d l e h =
-    let first : below_all nat_cmp new.number (map page_entry ps) ≡ true = rw e (and_first _ _ h) in and_both _ _ first (and_second _ _ h)
+    let first : below_all nat_cmp new.number (map page_entry ps) ≡ true = rw e (and_first _ _ h) in and_from _ _ first (and_second _ _ h)
 sorted-set (p ∷ ps) (suc i) new d l e h =
-    and_both _ _ (below_all-set p.number ps i new d (omega arith) e (and_first _ _ h))
+    and_from _ _ (below_all-set p.number ps i new d (omega arith) e (and_first _ _ h))
     (sorted-set ps i new d (omega arith) e (and_second _ _ h))
 
 pub fine_set : (ps : List Page) (i : ℕ) (new d : Page) → IsFine ps → i < length ps → length new.bytes.items ≡ 4096 → new.flags < 8
@@ -154,7 +156,7 @@ run_bytes ps i s bs new d fine fine' l found e fits is =
           run ∙ over_shift s bs a _ same ∙ ap (over s bs a) (sym was)
       | false ↦ λ t.
           let u : (s / 4096 == a / 4096) ≡ false = rw (← number) t in
-          sym (elim (low_or a s) [ inl b ↦ over-below s bs a _ b | inr g ↦ over-above s bs a _ (apart s a (length bs) u g fits) ])
+          sym (elim (cases_lt a s) [ inl b ↦ over-below s bs a _ b | inr g ↦ over-above s bs a _ (apart s a (length bs) u g fits) ])
     ] refl ∙ sym (get-set_bytes (mem_of ps) s bs a (omega arith)))
 
 missing : (o : Option ℕ) → o ≡ None → IsSome o → ⊥

@@ -6,6 +6,7 @@ use Rattle.std.proofs.lemmas.Bool.Decides.{nat_tests}
 use Rattle.std.proofs.lemmas.Nat.{or_lt}
 use Rattle.std.proofs.lemmas.List.{length-replicate, get_or-replicate}
 use Rattle.std.proofs.lemmas.Option.{slice_get-get_or}
+use Rattle.std.proofs.lemmas.Bool.{eqb-true}
 use Rattle.std.specs.FinMap.{get, get-empty}
 use Rattle.std.specs.Ordering.{nat_cmp}
 use Rattle.paged_memory.specs.declared.page.Page.{Page}
@@ -89,9 +90,6 @@ sum_of_both f g l m = or_lt 3 f g l m
 
 -- ---- the pages from one on, up to another
 
-same_test : (n q : ℕ) → (n == q) ≡ true → n ≡ q
-same_test n q t = grind (arith, nat_tests)
-
 none_before : (first n q : ℕ) → n ≡ q → (nat_le first q && nat_lt q n) ≡ false
 none_before first n q e = grind (arith, nat_tests)
 
@@ -111,8 +109,8 @@ touched_more first n q f old now new l before is =
     elim (n == q) as (λ t. (n == q) ≡ t → new ≡ cond t (union (Some f) now) now
     → new ≡ union (cond (nat_le first q && nat_lt q (n + 1)) (Some f) None) old) [
       | true ↦ λ t h.
-          let was : now ≡ old = rw (none_before first n q (same_test n q t)) at before in
-          h ∙ ap (union (Some f)) was ∙ sym (rw (one_now first n q l (same_test n q t)) refl)
+          let was : now ≡ old = rw (none_before first n q (eqb-true n q t)) at before in
+          h ∙ ap (union (Some f)) was ∙ sym (rw (one_now first n q l (eqb-true n q t)) refl)
       | false ↦ λ t h. h ∙ before ∙ sym (rw (no_other first n q t) refl)
     ] refl is
 

@@ -14,15 +14,29 @@ pub struct Hints {
     ghost whole: { length places.items ≡ 4096 },
 }
 
+/// Hints at the pages whose lowest permission, to be executed, is this one; of those that share a hint the
+/// last has it.
+fn hint_at(places: &mut [u16], pages: &[Page], executable: u8)
+    requires whole { length places.old ≡ 4096 }
+    requires few { length pages.now ≤ 4096 }
+    ensures { length places.new ≡ 4096 }
+{
+    for (place, page) in pages.iter().enumerate() {
+        if page.flags & 1 == executable {
+            places[(page.number % HINTS as u64) as usize] = place as u16;
+        }
+    }
+}
+
 impl Hints {
-    /// The hints for pages; of those that share one, the last is hinted at.
+    /// The hints for pages; of those that share one the last that can be executed is hinted at, and where
+    /// there is none the last: the most pages are looked up to fetch.
     pub fn of(alloc: Global, pages: &[Page]) -> Result<Hints, AllocError>
         requires { length pages.now ≤ 4096 }
     {
         let mut places = vec![in alloc; 0u16; HINTS]?;
-        for (place, page) in pages.iter().enumerate() {
-            places[(page.number % HINTS as u64) as usize] = place as u16;
-        }
+        hint_at(places.as_mut_slice(), pages, 0);
+        hint_at(places.as_mut_slice(), pages, 1);
         Ok(Hints { places })
     }
 

@@ -7,6 +7,7 @@
 //! A page is found by a hint, and by binary search where another page stands there.
 #![tactic(auto)]
 
+mod code;
 mod hints;
 mod image;
 mod page;
@@ -15,6 +16,7 @@ mod page_list;
 mod pages;
 mod writes;
 
+pub use code::word_of;
 pub use image::{Image, Part};
 pub use page_list::{PageImage, PageList};
 pub use pages::{Abort, PageView, Pages, WriteStop};

@@ -155,6 +155,16 @@ impl Pages {
         }
     }
 
+    /// The 4096 bytes of the page of that address, where it can be executed.
+    #[inline(always)]
+    pub fn code(&self, base: u64) -> Option<&[u8]>
+        requires { base % 4096 ≡ 0 }
+        ensures there { IfSome result (λ bytes. bytes_with 1 self.now.memory base 4096 ≡ Some bytes.now) }
+        ensures count { IfSome result (λ bytes. length bytes.now ≡ 4096) }
+    {
+        run(self.pages.as_slice(), &self.hints, base, 4096, 1)
+    }
+
     /// The same, where the bytes may lie in two pages.
     #[inline(never)]
     fn fetch_across(&self, pc: u64) -> Option<u32>

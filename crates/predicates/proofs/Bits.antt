@@ -3,8 +3,7 @@ use Rattle.std.proofs.Common.{◌≡◌, if◌then◌else◌, ◌≢◌, ℕ, �
 use Rattle.std.proofs.Common.{◌==◌, ◌&&◌, Bool, true, false, List, length, map, set, get_or}
 use Rattle.std.proofs.Common.{bit_or, refl, ap, ◌∙◌, sym, arith, inl, inr, get_or-set_same, w8, subst}
 use Rattle.std.specs.List.{range_with_len}
-use Rattle.std.proofs.lemmas.Bool.{cases_eq}
-use Rattle.std.proofs.lemmas.Bool.Decides.{nat_tests}
+use Rattle.std.proofs.lemmas.Bool.{cases_eq, ne_eqb}
 use Rattle.std.proofs.lemmas.Grind.{elements}
 use Rattle.std.proofs.lemmas.List.{same_lists, set-get_or}
 use Rattle.std.specs.Int.Bits.{or_zero_r}
@@ -62,9 +61,6 @@ pub record IsPredicateTo (e count : ℕ) (truth : ℕ → Bool) (p : List ℕ) :
   pub rest : (k : ℕ) → count ≤ k → bit_of p (e * k) ≡ false
   pub others : (j : ℕ) → j % e ≢ 0 → bit_of p j ≡ false
 
-pub not_zero : (n : ℕ) → n ≢ 0 → (n == 0) ≡ false
-not_zero n ne = grind (arith, nat_tests, ne)
-
 first_byte : (size : Size) (j : ℕ) → j % bytes_in size ≡ 0 → j ≡ bytes_in size * (j / bytes_in size)
 first_byte B j e = omega (arith, e)
 first_byte H j e = omega (arith, e)
@@ -83,7 +79,7 @@ each_bit size p truth is j lt = elim (cases_eq (j % bytes_in size) 0) [
   | inl e ↦
       ap (bit_of p) (first_byte size j e) ∙ is.elements (j / bytes_in size) (inside size j (length p) lt)
       ∙ sym (ap (λ n. (n == 0) && truth (j / bytes_in size)) e)
-  | inr ne ↦ is.others j ne ∙ sym (ap (λ b. b && truth (j / bytes_in size)) (not_zero _ ne))
+  | inr ne ↦ is.others j ne ∙ sym (ap (λ b. b && truth (j / bytes_in size)) (ne_eqb _ 0 ne))
 ]
 
 same_truth : (p : List ℕ) (j : ℕ) → truth_at p j ≡ bit_of p j

@@ -9,7 +9,7 @@ use Rattle.std.proofs.lemmas.Simd.{bitmask_splat, bit_mask_l, mask_l-lt, get_or-
 use Rattle.std.proofs.lemmas.List.{get_or-map, length-map, get_or-drop}
 use Rattle.std.proofs.lemmas.Grind.{common_steps}
 use Rattle.std.proofs.lemmas.Nat.Bits.{bit_at_and, bit_at-lt}
-use Rattle.std.proofs.lemmas.Bool.{cases_lt, cases_eq, eq-eqb}
+use Rattle.std.proofs.lemmas.Bool.{cases_lt, cases_eq, eq-eqb, ne_eqb}
 use Rattle.vector_elements.specs.declared.size.Size.{Size}
 use Rattle.vector_elements.specs.declared.size.Size.TheVariants.{B, H, S, D}
 use Rattle.vector_elements.specs.Active.{element_bits}
@@ -18,7 +18,6 @@ use Rattle.vector_elements.proofs.Lists.{length-written}
 use Rattle.vector_elements.proofs.Masks.{lowest_byte}
 use Rattle.vector_elements.proofs.ReadBack.{read_back}
 use Rattle.predicates.specs.Predicates.{bit_for}
-use Rattle.predicates.proofs.Bits.{not_zero}
 use Rattle.vector_elements.specs.Numbers.{bytes_in, range_of}
 use Rattle.vector_elements.proofs.Spreads.{all_below, all_below-at, is_same, same}
 
@@ -59,7 +58,7 @@ all_lowest H = refl
 all_lowest S = refl
 all_lowest D = refl
 
-lowest : (size : Size) (k : ℕ) → k < 8 → (element_bits size / 2 ^ k % 2 == 1) ≡ (k % bytes_in size == 0)
+pub lowest : (size : Size) (k : ℕ) → k < 8 → (element_bits size / 2 ^ k % 2 == 1) ≡ (k % bytes_in size == 0)
 unfolding lowest_at
 lowest size k below = same _ _ (all_below-at (lowest_at size) 8 k (all_lowest size) below)
 
@@ -72,7 +71,7 @@ both (suc (suc x)) y a b = absurd (omega arith)
 both zero (suc (suc y)) a b = absurd (omega arith)
 both (suc zero) (suc (suc y)) a b = absurd (omega arith)
 
-joined_bit : (a b k : ℕ) → (bit_at (bit_and a b) k == 1) ≡ ((bit_at a k == 1) && (bit_at b k == 1))
+pub joined_bit : (a b k : ℕ) → (bit_at (bit_and a b) k == 1) ≡ ((bit_at a k == 1) && (bit_at b k == 1))
 joined_bit a b k = ap (λ n. n == 1) (bit_at_and a b k) ∙ both (bit_at a k) (bit_at b k) (bit_at-lt a k) (bit_at-lt b k)
 
 -- the bits of the first n bytes are those of active elements that are marked
@@ -80,7 +79,7 @@ abbrev pub AreGatheredTo : Size → List ℕ → List ℕ → List ℕ → ℕ �
 AreGatheredTo size marks pg pd n = (j : ℕ) → j < 8 * n → bit_of pd j ≡
     ((j % bytes_in size == 0) && (bit_of pg j && (slice_index marks j == 255)))
 
-in_element : (size : Size) (i k : ℕ) → (8 * i + k) % bytes_in size ≡ k % bytes_in size
+pub in_element : (size : Size) (i k : ℕ) → (8 * i + k) % bytes_in size ≡ k % bytes_in size
 in_element B i k = omega arith
 in_element H i k = omega arith
 in_element S i k = omega arith
@@ -215,7 +214,7 @@ gathered_bit size bytes pg pd f n long gathered j below = elim (cases_eq (j % by
       (marked_at size bytes f j (whole_marks size (length bytes) n long) (omega arith) lowest)
       ∙ ap (λ k. (j % e == 0) && (bit_of pg k && f (j / e))) (sym (first_of size j lowest))
   | inr other ↦
-      let none : (j % bytes_in size == 0) ≡ false = not_zero _ other in
+      let none : (j % bytes_in size == 0) ≡ false = ne_eqb _ 0 other in
       gathered j below ∙ ap (λ b. b && (bit_of pg j && (slice_index (marks_of size bytes f) j == 255))) none
       ∙ sym (ap (λ b. b && (is_active (bytes_in size) pg (j / bytes_in size) && f (j / bytes_in size))) none)
 ]

@@ -41,10 +41,6 @@ some-one [] true x = refl
 some-one [] false x = refl
 some-one (y ∷ g) on x = refl
 
-or-false : (a : Bool) → (a || false) ≡ a
-or-false true = refl
-or-false false = refl
-
 any-one : (g : List Bool) (on x : Bool) → (any_true g || (on && x)) ≡ any_true (g ++ one_of on x)
 any-one [] true true = refl
 any-one [] true false = refl

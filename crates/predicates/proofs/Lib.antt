@@ -5,3 +5,4 @@ pub mod Loops
 pub mod Differences
 pub mod Gathered
 pub mod Whole
+pub mod Below

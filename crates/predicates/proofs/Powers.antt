@@ -1,9 +1,9 @@
 -- The greatest power of 2 up to a number.
-use Rattle.std.proofs.Common.{◌≡◌, ℕ, suc, ◌-◌, ◌*◌, ◌%◌, ◌^◌, ◌<◌, ◌≤◌, ◌==◌, false, refl, arith}
+use Rattle.std.proofs.Common.{◌≡◌, ℕ, suc, ◌-◌, ◌*◌, ◌%◌, ◌^◌, ◌<◌, ◌≤◌, refl, arith}
 use Rattle.std.specs.Int.Count.{count_leading_zeros}
-use Rattle.std.proofs.lemmas.Bool.Decides.{nat_tests}
 use Rattle.std.proofs.lemmas.Nat.{leading_top}
 use Rattle.std.proofs.Math.Nat.{pow-suc}
+use Rattle.plain_lemmas.proofs.Tests.{eqb-zero_of_pos}
 use Rattle.predicates.specs.Patterns.{floor_power, IsFloorPower}
 
 top : (n : ℕ) → 0 < n → n < 2 ^ 64 → (2 ^ (63 - count_leading_zeros 64 n) ≤ n) × (n < 2 * 2 ^ (63 - count_leading_zeros 64 n))
@@ -19,12 +19,9 @@ power_within n some fits = let t = top n some fits in let low = t.0 in omega (ar
 pub power_greatest : (n : ℕ) → 0 < n → n < 2 ^ 64 → n < 2 * (1 * 2 ^ (63 - count_leading_zeros 64 n) % 2 ^ 64)
 power_greatest n some fits = let t = top n some fits in let low = t.0 in let high = t.1 in omega (arith, low, high)
 
-is_not_zero : (n : ℕ) → 0 < n → (n == 0) ≡ false
-is_not_zero n some = grind (arith, nat_tests)
-
 floor_power-some : (n : ℕ) → 0 < n → floor_power n ≡ 2 ^ (63 - count_leading_zeros 64 n)
 unfolding floor_power
-floor_power-some n some = rw (is_not_zero n some) refl
+floor_power-some n some = rw (eqb-zero_of_pos n some) refl
 
 -- POW2 as such a power
 pub floor_power-is : (n : ℕ) → 0 < n → n < 2 ^ 64 → IsFloorPower n (floor_power n)

@@ -3,14 +3,15 @@ use Rattle.std.proofs.Common.{◌≡◌, ℕ, zero, suc, ◌+◌, ◌-◌, ◌*�
 use Rattle.std.proofs.Common.{slice_index}
 use Rattle.std.proofs.Common.{Bool, true, false, not, refl, ap, ap₂, sym, ◌∙◌, arith, inl, inr, bit_and, bit_or, ◌↔◌, replicate}
 use Rattle.std.specs.Int.{bit_at}
-use Rattle.std.proofs.lemmas.Bool.{cases_lt, eqb-true, eq-eqb}
+use Rattle.std.proofs.lemmas.Bool.{cases_lt, eqb-true, eq-eqb, or_parts}
 use Rattle.std.proofs.lemmas.Nat.Bits.{bit_at_or, bit_at-lt, bit_at-zero}
+use Rattle.plain_lemmas.proofs.Tests.{implied}
 use Rattle.vector_elements.specs.declared.size.Size.{Size}
 use Rattle.vector_elements.specs.declared.size.Size.TheVariants.{B, H, S, D}
 use Rattle.vector_elements.specs.Active.{AreActive, element_bits}
 use Rattle.vector_elements.specs.Elements.{bit_of, is_active, active_of, listed}
 use Rattle.vector_elements.specs.Numbers.{bytes_in}
-use Rattle.vector_elements.proofs.Full.{place_of, lowest_of, element_at, element_within, bit_at_place, after_or, or_from, all_below-from}
+use Rattle.vector_elements.proofs.Full.{place_of, lowest_of, element_at, element_within, bit_at_place, or_from, all_below-from}
 use Rattle.vector_elements.proofs.Lists.{length-listed}
 use Rattle.vector_elements.proofs.Spreads.{all_below, all_below-at, is_same, same}
 use Rattle.predicates.specs.Flags.{HasBitsOfSome, any_true, governed, first_or, last_or, flags_of}
@@ -60,7 +61,7 @@ clear_bit : (size : Size) (n k : ℕ) → n < 256 → (bit_and n (element_bits s
 unfolding are_same is_clear_at
 clear_bit size n k fits holds below element =
     let all = sym (same _ _ (all_below-at (are_same size) 256 n (all_same size) fits)) ∙ holds in
-    eqb-true _ _ (after_or _ _ (all_below-at (is_clear_at size n) 8 k all below) (eq-eqb _ _ element))
+    eqb-true _ _ (implied _ _ (all_below-at (is_clear_at size n) 8 k all below) (eq-eqb _ _ element))
 
 none_if : (size : Size) (n : ℕ) → n < 256 → ((k : ℕ) → k < 8 → k % bytes_in size ≡ 0 → bit_at n k ≡ 0)
     → (bit_and n (element_bits size) == 0) ≡ true
@@ -99,16 +100,12 @@ any_append [] false = refl
 any_append (true ∷ xs) x = refl
 any_append (false ∷ xs) x = any_append xs x
 
-or_false : (a b : Bool) → (a || b) ≡ false → (a ≡ false) × (b ≡ false)
-or_false true b is = absurd (cc)
-or_false false b is = (refl, is)
-
 none_listed : (f : ℕ → Bool) (n : ℕ) → (any_true (listed f n) ≡ false) ↔ ((i : ℕ) → i < n → f i ≡ false)
 unfolding listed
 none_listed f zero = (λ _ i none. absurd (omega arith), λ _. refl)
 none_listed f (suc n) = (
   λ none i within.
-      let parts = or_false _ _ (sym (any_append (listed f n) (f n)) ∙ none) in
+      let parts = or_parts _ _ (sym (any_append (listed f n) (f n)) ∙ none) in
       elim (cases_lt i n) [
         | inl before ↦ (none_listed f n).0 parts.0 i before
         | inr last ↦ (let here : i ≡ n = omega arith in ap f here ∙ parts.1)

@@ -85,12 +85,9 @@ fn flags_of_each(size: Size, mask: &[u8], results: &[u8]) -> Nzcv
     }
 }
 
-/// The flags of a predicate that an instruction gives, governed by a mask: N is the result at the first
-/// active element, Z that no active element is true, C that the last is not; V is 0. Mostly all elements are
-/// active.
-/// Source: DDI 0487, J1.1, PredTest.
-#[inline]
-pub fn result_flags(size: Size, mask: &[u8], results: &[u8]) -> Nzcv
+/// The flags of a result. Mostly all elements are active.
+#[inline(always)]
+fn flags_by(size: Size, mask: &[u8], results: &[u8]) -> Nzcv
     requires same { length results.now ≡ length mask.now }
     requires small { length mask.now ≤ 32 }
     ensures { result ≡ flags_of (active_of (bytes_in size) mask.now) (active_of (bytes_in size) results.now) }
@@ -99,5 +96,22 @@ pub fn result_flags(size: Size, mask: &[u8], results: &[u8]) -> Nzcv
         flags_of_whole(size, mask, results)
     } else {
         flags_of_each(size, mask, results)
+    }
+}
+
+/// The flags of a predicate that an instruction gives, governed by a mask: N is the result at the first
+/// active element, Z that no active element is true, C that the last is not; V is 0. Those of two bytes are
+/// made without a loop.
+/// Source: DDI 0487, J1.1, PredTest.
+#[inline]
+pub fn result_flags(size: Size, mask: &[u8], results: &[u8]) -> Nzcv
+    requires same { length results.now ≡ length mask.now }
+    requires small { length mask.now ≤ 32 }
+    ensures { result ≡ flags_of (active_of (bytes_in size) mask.now) (active_of (bytes_in size) results.now) }
+{
+    if mask.len() == 2 {
+        flags_by(size, &mask[..2], &results[..2])
+    } else {
+        flags_by(size, mask, results)
     }
 }

@@ -67,6 +67,20 @@ fn gather_active(marks: &[u8], size: Size, pd: &mut [u8], pg: &[u8])
     }
 }
 
+/// The same as `gather_active` for a predicate of two bytes.
+#[inline(always)]
+fn gather_two(marks: &[u8], size: Size, pd: &mut [u8], pg: &[u8])
+    requires two { length pd.old ≡ 2 }
+    requires long { length marks.now ≡ 8 * length pd.old }
+    requires same { length pg.now ≡ length pd.old }
+    ensures { (j : ℕ) → j < 8 * length pd.old → bit_of pd.new j ≡
+        ((j % bytes_in size == 0) && (bit_of pg.now j && (slice_index marks.now j == 255))) }
+{
+    let bits = element_bits(size);
+    pd[0] = gather(marks, 0) & pg[0] & bits;
+    pd[1] = gather(marks, 1) & pg[1] & bits;
+}
+
 /// Makes a predicate of the truth values of the active elements, by marks, whatever they are before.
 #[inline(always)]
 fn put_by_marks<T: Truth>(truth: &T, size: Size, pd: &mut [u8], pg: &[u8], marks: &mut [u8])
@@ -82,9 +96,26 @@ fn put_by_marks<T: Truth>(truth: &T, size: Size, pd: &mut [u8], pg: &[u8], marks
     truths_tell_bytes(pd);
 }
 
-/// Makes a predicate of the truth values of the active elements, with a loop for each size.
+/// Makes a predicate of two bytes of the truth values of the active elements, by 16 marks.
 #[inline(always)]
-pub fn put_governed<T: Truth>(truth: &T, size: Size, pd: &mut [u8], pg: &[u8])
+fn put_two<T: Truth>(truth: &T, size: Size, pd: &mut [u8], pg: &[u8])
+    requires can { (i : ℕ) → bytes_in size * i + bytes_in size ≤ 8 * length pd.old
+        → T.can truth.now size i }
+    requires two { length pd.old ≡ 2 }
+    requires same { length pg.now ≡ length pd.old }
+    ensures { pd.new ≡ predicate_of (bytes_in size) (length pd.old)
+        (λ i. is_active (bytes_in size) pg.now i && T.gives truth.now size i) }
+{
+    let mut marks = [0u8; 16];
+    change_each(&Marks { truth }, size, &mut marks);
+    gather_two(&marks, size, pd, pg);
+    truths_tell_bytes(pd);
+}
+
+/// Makes a predicate of any length of the truth values of the active elements. It is a call of its own, so
+/// that for a predicate of two bytes no marks are cleared that are not used.
+#[inline(never)]
+fn put_many<T: Truth>(truth: &T, size: Size, pd: &mut [u8], pg: &[u8])
     requires can { (i : ℕ) → bytes_in size * i + bytes_in size ≤ 8 * length pd.old
         → T.can truth.now size i }
     requires small { length pd.old ≤ 32 }
@@ -95,4 +126,21 @@ pub fn put_governed<T: Truth>(truth: &T, size: Size, pd: &mut [u8], pg: &[u8])
     let mut room = [0u8; 256];
     let marks = &mut room[..8 * pd.len()];
     put_by_marks(truth, size, pd, pg, marks);
+}
+
+/// Makes a predicate of the truth values of the active elements, with a loop for each size.
+#[inline(always)]
+pub fn put_governed<T: Truth>(truth: &T, size: Size, pd: &mut [u8], pg: &[u8])
+    requires can { (i : ℕ) → bytes_in size * i + bytes_in size ≤ 8 * length pd.old
+        → T.can truth.now size i }
+    requires small { length pd.old ≤ 32 }
+    requires same { length pg.now ≡ length pd.old }
+    ensures { pd.new ≡ predicate_of (bytes_in size) (length pd.old)
+        (λ i. is_active (bytes_in size) pg.now i && T.gives truth.now size i) }
+{
+    if pd.len() == 2 {
+        put_two(truth, size, pd, pg);
+    } else {
+        put_many(truth, size, pd, pg);
+    }
 }

@@ -7,8 +7,7 @@ ghost use Rattle.predicates.specs.Flags.{flags_of};
 ghost use Rattle.predicates.specs.Loops.{register_size, while_at, while_predicate};
 
 use crate::flags::result_flags;
-use crate::pattern_predicate::Below;
-use crate::truths::put_truths;
+use crate::pattern_predicate::put_below;
 use bit_ops::Nzcv;
 use vector_elements::{Size, low_bits, signed};
 
@@ -80,6 +79,6 @@ pub fn predicate_while(
         flags_of (replicate (8 * length pd.new / bytes_in size) true) (active_of (bytes_in size) pd.new) }
 {
     let limit = while_limit(is_signed, wide, n, m);
-    put_truths(&Below { limit }, size, pd);
+    put_below(limit, size, pd);
     flags_of_all(size, pd)
 }

@@ -4,6 +4,7 @@ use Rattle.std.proofs.Common.{length, take, replicate, Result, Ok, Err, refl, sy
 use Rattle.std.specs.Prelude.{codes}
 use Rattle.std.specs.Str.{bytes_eq}
 use Rattle.std.proofs.lemmas.Bool.{ltb-false, ltb-true}
+use Rattle.plain_lemmas.proofs.Lists.{cons_inj}
 use Rattle.sm_types.specs.declared.version.Version.{Version}
 use Rattle.line_reader.specs.Lines.{lines_of}
 use Rattle.line_reader.specs.Reading.{Left, and_then, said_if, each, past_all}
@@ -138,24 +139,13 @@ by_report =
 
 -- ---- a file
 
-first_is : {x y : List ℕ} {xs ys : List (List ℕ)} → x ∷ xs ≡ y ∷ ys → (x ≡ y) × (xs ≡ ys)
-first_is {x} {y} {xs} {ys} e = (ap head_of e, ap tail_of e)
-  where
-    head_of : List (List ℕ) → List ℕ
-    head_of [] = []
-    head_of (x ∷ xs) = x
-
-    tail_of : List (List ℕ) → List (List ℕ)
-    tail_of [] = []
-    tail_of (x ∷ xs) = xs
-
 alike_lines : (n : ℕ) (lines others : List (List ℕ)) → take n lines ≡ take n others → AreAlike n lines others
 alike_lines zero lines others e = tt
 alike_lines (suc n) [] [] e = tt
 alike_lines (suc n) [] (other ∷ others) e = cc
 alike_lines (suc n) (line ∷ lines) [] e = cc
 alike_lines (suc n) (line ∷ lines) (other ∷ others) e =
-    let both = first_is e in (both.0, alike_lines n lines others both.1)
+    let both = cons_inj e in (both.0, alike_lines n lines others both.1)
 
 outcome_fault : (read : Result (Report × Left) Fault) (fault : Fault) → outcome read ≡ Err fault → read ≡ Err fault
 outcome_fault (Ok read) fault e = cc
@@ -209,7 +199,7 @@ fewer (suc n) (suc m) [] [] l e = refl
 fewer (suc n) (suc m) [] (other ∷ others) l e = cc
 fewer (suc n) (suc m) (line ∷ lines) [] l e = cc
 fewer (suc n) (suc m) (line ∷ lines) (other ∷ others) l e =
-    let both = first_is e in
+    let both = cons_inj e in
     let more = fewer n m lines others (omega (arith, l)) both.1 in
     rw (both.0, more) refl
 

@@ -3,8 +3,8 @@ use Rattle.std.proofs.Common.{◌≡◌, ℕ, zero, suc, ◌+◌, ◌-◌, min, 
 use Rattle.std.proofs.Common.{Option, Some, None, Result, Ok, refl, sym, ap, ◌∙◌, arith, subst, append_assoc, length-append}
 use Rattle.std.specs.Prelude.{is_some, option_map}
 use Rattle.std.specs.Str.{bytes_eq}
-use Rattle.std.proofs.lemmas.Bool.{and_parts}
-use Rattle.std.proofs.lemmas.Slice.Eq.{bytes_eq-Decides}
+use Rattle.std.proofs.lemmas.Bool.{and_parts, not-true}
+use Rattle.plain_lemmas.proofs.Lists.{cons_inj, bytes_eq-true}
 use Rattle.line_reader.specs.Lines.{words_of}
 use Rattle.line_reader.specs.Fields.{Saying, named, is_name, field, said_by}
 use Rattle.line_reader.specs.Fields as fields
@@ -25,7 +25,7 @@ use Rattle.report_reader.specs.declared.fault.ReportKind.{ReportKind}
 use Rattle.report_reader.specs.declared.fault.ReportKind.TheVariants as part
 use Rattle.report_reader.proofs.Passing.{bytes-append}
 use Rattle.report_laws.proofs.FirstLines.{from_line, any_read, all_read}
-use Rattle.report_laws.proofs.StateKinds.{differ_from, is_foreign, are_apart, parted, is_false}
+use Rattle.report_laws.proofs.StateKinds.{differ_from, is_foreign, are_apart, parted}
 
 -- ---- places
 
@@ -74,9 +74,6 @@ pub record HasName (text name : List ℕ) : Type 0 where
   pub are : words_of text ≡ word ∷ words
   pub is : word ≡ name
 
-same_word : (word name : List ℕ) → bytes_eq word name ≡ true → word ≡ name
-same_word word name e = (bytes_eq-Decides word name).0 e
-
 form_named : (text name : List ℕ) (fields : List FieldKind) (words : List (List ℕ)) → words_of text ≡ words
     → has_form name fields words ≡ true → HasName text name
 unfolding has_form
@@ -86,7 +83,7 @@ form_named text name fields (word ∷ words) are e =
       word = word;
       words = words;
       are = are;
-      is = same_word word name
+      is = bytes_eq-true word name
           (and_parts (bytes_eq word name) (are_fields fields words) e).0;
     }
 
@@ -108,7 +105,7 @@ named_words {A} text name next a (word ∷ words) are e =
     elim (bytes_eq word name) as (λ b. bytes_eq word name ≡ b
     → option_map (λ (said : A × List (List ℕ)). said.0)
     (fields.and_then (option_map (λ (u : Unit {0}). (u, words)) (cond b (Some tt) None)) next) ≡ Some a → HasName text name) [
-      | true ↦ λ is h. record { word = word; words = words; are = are; is = same_word word name is }
+      | true ↦ λ is h. record { word = word; words = words; are = are; is = bytes_eq-true word name is }
       | false ↦ λ is h. cc
     ] refl e
 
@@ -146,7 +143,7 @@ foreign_none : (kinds : List LineKind) (text name : List ℕ) → HasName text n
 foreign_none [] text name it foreign = tt
 foreign_none (kind ∷ kinds) text name it foreign =
     let parts = and_parts (not (bytes_eq name (name_of kind))) (is_foreign name kinds) foreign in
-    (other_kind kind text name it (is_false _ parts.0), foreign_none kinds text name it parts.1)
+    (other_kind kind text name it (not-true _ parts.0), foreign_none kinds text name it parts.1)
 
 pub number_none : (kinds : List LineKind) (text name : List ℕ) (n : ℕ) → number_line name text ≡ Some n → is_foreign name kinds ≡ true
     → IsNone kinds text
@@ -167,7 +164,7 @@ unlike_later kind (other ∷ kinds) own rest are differ unlike =
     let parts = and_parts (not (bytes_eq (name_of other) (name_of kind))) (differ_from (name_of kind) kinds) differ in
     let one = are.1 in
     subst (λ ls. is_line kind (first_of (ls ++ rest)) ≡ false) (sym one.whole)
-    (unlike_first kind other one.first are.0 rest one.each (is_false _ parts.0)
+    (unlike_first kind other one.first are.0 rest one.each (not-true _ parts.0)
     (unlike_later kind kinds are.0 rest are.2 parts.1 unlike))
 
 all_passed : (kind : LineKind) (line place : ℕ) (own rest : List (List ℕ)) → AllOfKind kind own → is_line kind (first_of rest) ≡ false
@@ -250,17 +247,6 @@ out_read (suc k) size n place (text ∷ own) rest are =
 
 -- ---- lines that say something each
 
-pub heads : {A : Type 0} {x y : A} {xs ys : List A} → x ∷ xs ≡ y ∷ ys → (x ≡ y) × (xs ≡ ys)
-heads {A} {x} {y} {xs} {ys} e = (ap head_of e, ap tail_of e)
-  where
-    head_of : List A → A
-    head_of [] = x
-    head_of (z ∷ zs) = z
-
-    tail_of : List A → List A
-    tail_of [] = []
-    tail_of (z ∷ zs) = zs
-
 pub each_read : {A : Type 0} (part : ReportKind) (says : List ℕ → Option A) (k n place : ℕ) (own rest : List (List ℕ)) (all : List A)
     → map says own ≡ map (λ a. Some a) all
     → each (λ j. line part says) (length all) k (from_line n place (own ++ rest)) ≡ Ok (all, behind n place own rest)
@@ -269,7 +255,7 @@ each_read part says k n place [] rest [] said = same_place [] n (n + 0) place (p
 each_read part says k n place [] rest (a ∷ all) said = cc
 each_read part says k n place (text ∷ own) rest [] said = cc
 each_read {A} part says k n place (text ∷ own) rest (a ∷ all) said =
-    let both = heads said in
+    let both = cons_inj said in
     let last : A → List A → Reading (List A) = λ b others left. Ok (b ∷ others, left) in
     let more : A → Reading (List A) = λ b left. and_then (each (λ j. line part says) (length all) (k + 1) left) (last b) in
     then_read (line part says (from_line n place (text ∷ (own ++ rest)))) more a
@@ -295,7 +281,7 @@ all_said {A} {B} of says line place [] (text ∷ rest) [] said none =
 all_said of says line place [] rest (a ∷ all) said none = cc
 all_said of says line place (text ∷ own) rest [] said none = cc
 all_said {A} {B} of says line place (text ∷ own) rest (a ∷ all) said none =
-    let both = heads said in
+    let both = cons_inj said in
     ap (λ o. let it : Result (B × Left) Fault = Ok (
       of (onto_said o (first_said says (own ++ rest))),
       cond (is_some o) (past_first_all (λ t. is_some (says t)) (line + 1) (place + length text) (own ++ rest))

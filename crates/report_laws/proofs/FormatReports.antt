@@ -5,6 +5,7 @@ use Rattle.std.specs.Prelude.{codes}
 use Rattle.std.specs.Str.{bytes_eq}
 use Rattle.std.proofs.lemmas.Bool.{le-ltb}
 use Rattle.std.proofs.lemmas.List.{append-nil, length-replicate}
+use Rattle.plain_lemmas.proofs.Lists.{cons_inj}
 use Rattle.sm_types.specs.declared.shared_op.Event.{Event}
 use Rattle.sm_types.specs.declared.stop.Stop.{Stop}
 use Rattle.sm_types.specs.declared.version.Version.{Version}
@@ -24,7 +25,7 @@ use Rattle.report_reader.specs.declared.events.Setting.{Setting}
 use Rattle.report_reader.specs.declared.fault.ReportKind.TheVariants as part
 use Rattle.report_reader.proofs.Passing.{bytes-append}
 use Rattle.report_laws.proofs.FirstLines.{from_line, all_read}
-use Rattle.report_laws.proofs.FormatLines.{behind, read_to, same_place, then_read, lines_then, line_read, line_by_read, HasName, heads}
+use Rattle.report_laws.proofs.FormatLines.{behind, read_to, same_place, then_read, lines_then, line_read, line_by_read, HasName}
 use Rattle.report_laws.proofs.FormatLines.{setting_named, other_setting, number_none, kinds_read, out_read, each_read, all_said}
 use Rattle.report_laws.proofs.States.{lines_apart, lines_foreign}
 
@@ -172,7 +173,7 @@ after_words : (pending : List (List ℕ)) (ending : List ℕ) (rest : List (List
 after_words [] ending rest settings each end = other_setting ending (codes "end") (codes "w") 512 end refl
 after_words (text ∷ pending) ending rest [] each end = cc
 after_words (text ∷ pending) ending rest (setting ∷ settings) each end =
-    let said : setting_line (codes "pending") 32 text ≡ Some setting = (heads each).0 in
+    let said : setting_line (codes "pending") 32 text ≡ Some setting = (cons_inj each).0 in
     other_setting text (codes "pending") (codes "w") 512 (setting_named (codes "pending") 32 text setting said) refl
 
 shared_at : (n place : ℕ) (heading : List ℕ) (shared pending : List (List ℕ)) (ending : List ℕ) (rest : List (List ℕ)) (words : SharedWords)

@@ -3,7 +3,7 @@ use Rattle.std.proofs.Common.{◌≡◌, ℕ, ◌+◌, ◌*◌, ◌≤◌, Bool,
 use Rattle.std.proofs.Common.{arith, subst, length-append, nat_lt}
 use Rattle.std.specs.List.{list_all}
 use Rattle.std.specs.Str.{bytes_eq}
-use Rattle.std.proofs.lemmas.Bool.{and_parts, false≢true, ltb-true}
+use Rattle.std.proofs.lemmas.Bool.{and_parts, ltb-true, not-true}
 use Rattle.std.proofs.lemmas.List.{length-map}
 use Rattle.std.proofs.Math.Nat.{add-mul}
 use Rattle.kernel_contexts.specs.State.{State}
@@ -71,10 +71,6 @@ rows_give often kind rows named fit many =
 
 -- ---- kinds of other names
 
-pub is_false : (b : Bool) → not b ≡ true → b ≡ false
-is_false true e = absurd (false≢true e)
-is_false false e = refl
-
 -- the kinds have other names than this one
 abbrev pub differ_from : List ℕ → List LineKind → Bool
 differ_from name [] = true
@@ -115,7 +111,7 @@ pub none_of : (kinds : List LineKind) (word : List ℕ) (words : List (List ℕ)
 none_of [] word words more rest plain foreign = tt
 none_of (kind ∷ kinds) word words more rest plain foreign =
     let parts = and_parts (not (bytes_eq word (name_of kind))) (is_foreign word kinds) foreign in
-    (unlike_first kind word words more rest plain (is_false _ parts.0), none_of kinds word words more rest plain parts.1)
+    (unlike_first kind word words more rest plain (not-true _ parts.0), none_of kinds word words more rest plain parts.1)
 
 -- ---- the lines of a state
 
@@ -138,7 +134,7 @@ unlike_kinds s it kind [] rest differ apart unlike = unlike
 unlike_kinds s it kind (other ∷ kinds) rest differ apart unlike =
     let parts = parted other kinds apart in
     let names = and_parts (not (bytes_eq (name_of other) (name_of kind))) (differ_from (name_of kind) kinds) differ in
-    unlike_rows kind other (rows_of s other) (lines_text s kinds) rest parts.named (it.fit other) (is_false _ names.0)
+    unlike_rows kind other (rows_of s other) (lines_text s kinds) rest parts.named (it.fit other) (not-true _ names.0)
     (unlike_kinds s it kind kinds rest names.1 parts.others unlike)
 
 pub kinds_give : (s : State) → RowsOfStateFit s → (kinds : List LineKind) → are_apart kinds ≡ true

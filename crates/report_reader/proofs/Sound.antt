@@ -4,9 +4,9 @@ use Rattle.std.specs.Prelude.{codes, is_some, IfOk}
 use Rattle.std.specs.List.{AllByRecursion, All}
 use Rattle.std.specs.Str.{bytes_eq}
 use Rattle.std.proofs.lemmas.Bool.{ltb-false}
-use Rattle.std.proofs.lemmas.Slice.Eq.{bytes_eq-Decides}
 use Rattle.std.proofs.lemmas.List.Elements.{All-from_recursion}
 use Rattle.std.proofs.lemmas.List.{append-nil, length-replicate}
+use Rattle.plain_lemmas.proofs.Lists.{bytes_eq-true}
 use Rattle.sm_types.specs.declared.shared_op.Event.{Event}
 use Rattle.sm_types.specs.declared.numbers.Numbers.{Numbers}
 use Rattle.sm_types.specs.declared.version.Version.{Version}
@@ -103,9 +103,6 @@ record IsJournal (left after : Left) (journal : List Event) : Type 0 where
   are_events : map event_line events ≡ map (λ event. Some event) journal
   is_end : ending ≡ codes "end-thread\n"
 
-same_bytes : (text other : List ℕ) → bytes_eq text other ≡ true → text ≡ other
-same_bytes text other e = (bytes_eq-Decides text other).0 e
-
 journal_read : (left : Left) (journal : List Event) (after : Left) → spec.journal left ≡ Ok (journal, after) → IsJournal left after journal
 unfolding spec.journal spec.events
 journal_read left journal after e =
@@ -126,7 +123,7 @@ journal_read left journal after e =
       passed = passed_then listing.passed (passed_then events.0.passed ending.passed);
       is_listing = listing.said ∙ ap (λ k. Some k) (sym events.1);
       are_events = events.0.each;
-      is_end = same_bytes ending.text (codes "end-thread\n") ending.holds;
+      is_end = bytes_eq-true ending.text (codes "end-thread\n") ending.holds;
     }))
 
 -- the lines of a block are between two places, behind other lines
@@ -302,10 +299,10 @@ shared_by left m1 m2 m3 after u v shared pending e1 e2 e3 e4 =
       pending = ps.own;
       ending = ending.text;
       passed = passed_then heading.passed (passed_then ws.passed (passed_then ps.passed ending.passed));
-      is_heading = same_bytes heading.text (codes "shared\n") heading.holds;
+      is_heading = bytes_eq-true heading.text (codes "shared\n") heading.holds;
       are_shared = ws.are;
       are_pending = ps.are;
-      is_end = same_bytes ending.text (codes "end\n") ending.holds;
+      is_end = bytes_eq-true ending.text (codes "end\n") ending.holds;
     }
 
 shared_read : (left : Left) (words : SharedWords) (after : Left) → shared_words left ≡ Ok (words, after) → AreShared left after words

@@ -1,4 +1,5 @@
--- The format of a report as a relation between its lines and what it says, apart from how it is read.
+-- The format of a report as a relation between its lines and what it says. How lines follow one another is said
+-- apart from the reader; what a single line says is what the reader's parsers of lines take.
 -- Source: docs/REPORT.md.
 use Rattle.std.specs.Prelude.{◌≡◌, ℕ, zero, suc, ◌+◌, ◌-◌, ◌/◌, ◌≤◌, min, true, List, [], ◌∷◌, ◌++◌, Some}
 use Rattle.std.specs.Prelude.{length, map, codes, replicate}

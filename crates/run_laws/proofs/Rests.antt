@@ -1,12 +1,13 @@
 -- The events that are left at a place of a run are those of the journal that come after the ones that are used; so
 -- the rest of the run, over these, comes to what the run comes to.
-use Rattle.std.proofs.Common.{◌≡◌, inl, inr, ℕ, zero, suc, ◌+◌, ◌<◌, ◌≤◌, ◌++◌, true, false, List, [], ◌∷◌, length, refl, ap, sym, ◌∙◌}
+use Rattle.std.proofs.Common.{◌≡◌, inl, inr, ℕ, zero, suc, ◌+◌, ◌<◌, ◌≤◌, ◌++◌, List, [], ◌∷◌, length, refl, ap, sym, ◌∙◌}
 use Rattle.std.proofs.Common.{subst, arith}
 use Rattle.std.proofs.Common.{append_assoc, length-append}
 use Rattle.std.specs.Prelude.{◌==◌, drop}
-use Rattle.std.proofs.lemmas.Bool.{cases_Bool, cond_both}
-use Rattle.std.proofs.lemmas.Bool.Decides.{nat_tests}
+use Rattle.std.proofs.lemmas.Bool.{cases_Bool, cond_both, eqb-true}
 use Rattle.std.proofs.lemmas.List.{drop_at}
+use Rattle.plain_lemmas.proofs.Tests.{lt_from_ne_le}
+use Rattle.plain_lemmas.proofs.Numbers.{cases_lt_eq_gt}
 use Rattle.sm_types.specs.SharedOps.{is_same_op}
 use Rattle.sm_types.specs.declared.config.Config.{Config}
 use Rattle.sm_types.specs.declared.shared_op.Event.{Event}
@@ -23,7 +24,7 @@ use Rattle.lone_runner.specs.Parting.{EndsAt, IsParting}
 use Rattle.lone_runner.specs.Rest.{EndsFrom, RestIsRest}
 use Rattle.lone_runner.specs.declared.fault.AloneFault.{AloneFault}
 use Rattle.lone_runner.proofs.Counted.{Counts, turn_counted}
-use Rattle.lone_runner.proofs.Partings.{compared, ends_unless, ends_whole, reach_next, stays_so}
+use Rattle.lone_runner.proofs.Partings.{ends_unless, ends_whole, reach_next, stays_so}
 use Rattle.lone_runner.proofs.Rests.{rest_is_rest}
 use Rattle.run_laws.specs.Rests.{ComesToTheRun}
 
@@ -120,12 +121,6 @@ IsWithin budget (At s used left) = s.count ≤ budget
 IsWithin budget (Ended s stop used left) = Unit {0}
 IsWithin budget (Strays s used left) = Unit {0}
 
-is_spent : (a b : ℕ) → (a == b) ≡ true → a ≡ b
-is_spent a b e = grind (arith, nat_tests)
-
-is_left : (a b : ℕ) → (a == b) ≡ false → a ≤ b → a < b
-is_left a b e l = grind (arith, nat_tests)
-
 within_after : (budget : ℕ) (s : State) (used : ℕ) (left : List Event) (end : TurnEnd) → s.count < budget → Counts s end
     → IsWithin budget (after_turn s used left end)
 within_after budget s used left (Goes t) under h = omega (arith, under, h.most)
@@ -141,9 +136,9 @@ within_on : (config : Config) (thread : ℕ) (r : Reached) → IsWithin config.b
 within_on config thread (At s used left) h = elim (cases_Bool (s.count == config.budget)) [
   | inl spent ↦
       subst (λ end. IsWithin config.budget (after_turn s used left end))
-      (sym (turn_spent config thread used s (is_spent s.count config.budget spent))) tt
+      (sym (turn_spent config thread used s (eqb-true s.count config.budget spent))) tt
   | inr more ↦
-      within_after config.budget s used left (turn_of config thread used s) (is_left s.count config.budget more h)
+      within_after config.budget s used left (turn_of config thread used s) (lt_from_ne_le s.count config.budget more h)
       (turn_counted config thread used s)
 ]
 within_on config thread (Ended s stop used left) h = tt
@@ -179,7 +174,7 @@ module _ (program : Program) (config : Config) (thread : ℕ) (journal : List Ev
     not_spent : from.count ≡ config.budget → ⊥
     not_spent is =
         let there = spent_so is in
-        let same : from ≡ state = elim (compared (suc turns) end.turns) [
+        let same : from ≡ state = elim (cases_lt_eq_gt (suc turns) end.turns) [
           | inl before ↦
               two_ends from state Budget stop used end.used left []
               (sym (stays_so program config thread journal 0 (Ended from Budget used left) refl (suc turns) end.turns
@@ -196,7 +191,7 @@ module _ (program : Program) (config : Config) (thread : ℕ) (journal : List Ev
         omega (arith, counts, less)
 
     pub not_used_up : from.count < config.budget
-    not_used_up = elim (compared from.count config.budget) [
+    not_used_up = elim (cases_lt_eq_gt from.count config.budget) [
       | inl under ↦ under
       | inr (inl same) ↦ absurd (not_spent same)
       | inr (inr over) ↦

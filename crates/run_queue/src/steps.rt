@@ -25,9 +25,9 @@ impl<P: Port> QueuePass<P> {
 }
 
 impl<P: Port> ContextQueue<P> {
-    /// Puts a context at the back, whose thread the pass holds, and then no longer holds. It is of the image
-    /// and the options that the pass knows, and its ticket of the port of that name. It is never refused: the
-    /// queue has a place for each thread. The call may wait.
+    /// Puts a context into the queue, whose thread the pass holds, and then no longer holds. It is of the
+    /// image and the options that the pass knows, and its ticket of the port of that name. It is never
+    /// refused: the queue has a place for each thread. The call may wait.
     pub fn offer<R: Wait>(&self, rt: &R, pass: &mut QueuePass<P>, whole: Whole<P>)
         requires queue { IsPassFor self.now.queue pass.old.pass }
         requires holds { 0 < occurrences (thread_of whole.context) (threads_held pass.old.pass) }
@@ -45,9 +45,11 @@ impl<P: Port> ContextQueue<P> {
         }
     }
 
-    /// Takes the context at the front, whose thread the pass then holds: one below the number of threads that
-    /// it did not hold, of the image, the options and the port that it knows. `None` comes only where the
-    /// queue was empty at a moment of the call, and leaves the pass as it was. The call may wait.
+    /// Takes a context out of the queue, whose thread the pass then holds: one below the number of threads
+    /// that it did not hold, of the image, the options and the port that it knows. `None` leaves the pass as
+    /// it was, and comes only where what the pass knows agrees with an empty queue. The queue below gives
+    /// contexts in the order of their offers; no clause here speaks of that order, and none says that the
+    /// queue was empty at a moment of a call that gives `None`. The call may wait.
     pub fn fetch<R: Wait>(&self, rt: &R, pass: &mut QueuePass<P>) -> Option<Whole<P>>
         requires queue { IsPassFor self.now.queue pass.old.pass }
         ensures queue { IsPassFor self.now.queue pass.new.pass }

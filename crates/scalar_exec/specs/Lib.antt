@@ -7,3 +7,6 @@ pub mod Conditional
 pub mod Branches
 pub mod Sources
 pub mod Step
+pub mod Forms
+pub mod Flat
+pub mod Apart

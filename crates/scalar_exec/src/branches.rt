@@ -11,7 +11,7 @@ use crate::registers::{next_address, read_x, register, write_x};
 use sm_types::{Branch, BranchRegister, BranchRegisterOp, PcRelative, PcRelativeOp, Scalars};
 
 /// The address at a signed distance in bytes, modulo 2^64.
-#[inline]
+#[inline(always)]
 pub fn address_at(base: u64, distance: i64) -> u64
     ensures { result ≡ address_at base distance }
 {
@@ -19,9 +19,9 @@ pub fn address_at(base: u64, distance: i64) -> u64
 }
 
 /// The address relative to PC or to its page.
-#[inline]
+#[inline(always)]
 #[tactic(auto, unfolding(crate::specs::Branches::relative_address))]
-fn relative(op: PcRelativeOp, pc: u64, imm: i32) -> u64
+pub(crate) fn relative(op: PcRelativeOp, pc: u64, imm: i32) -> u64
     ensures { result ≡ relative_address op pc imm }
 {
     match op {
@@ -31,6 +31,7 @@ fn relative(op: PcRelativeOp, pc: u64, imm: i32) -> u64
 }
 
 /// An address relative to PC goes to a register.
+#[inline(always)]
 #[tactic(auto, unfolding(crate::specs::Branches::pc_relative))]
 pub fn exec_pc_relative(s: &mut Scalars, x: &PcRelative)
     requires { IsPcRelative x.now }
@@ -42,7 +43,7 @@ pub fn exec_pc_relative(s: &mut Scalars, x: &PcRelative)
 }
 
 /// The address so many words away.
-#[inline]
+#[inline(always)]
 pub fn branch_target(pc: u64, words: i32) -> u64
     ensures { result ≡ branch_target pc words }
 {
@@ -50,7 +51,7 @@ pub fn branch_target(pc: u64, words: i32) -> u64
 }
 
 /// Sets X30 to the address of the next instruction.
-#[inline]
+#[inline(always)]
 fn link_register(s: &mut Scalars)
     ensures value { s.new ≡ linked s.old }
     ensures place { s.new.pc ≡ s.old.pc }
@@ -60,7 +61,7 @@ fn link_register(s: &mut Scalars)
 }
 
 /// To the target where the branch is taken, else on.
-#[inline]
+#[inline(always)]
 #[tactic(auto, unfolding(crate::specs::Branches::branch_if, crate::specs::Step::flowed))]
 fn flow_if(s: &Scalars, taken: bool, words: i32) -> Flow
     ensures { flowed s.now result ≡ branch_if taken words s.now }
@@ -73,6 +74,7 @@ fn flow_if(s: &Scalars, taken: bool, words: i32) -> Flow
 }
 
 /// Branches to an address at a distance.
+#[inline(always)]
 #[tactic(auto, unfolding(crate::specs::Branches::branch, crate::specs::Step::flowed))]
 pub fn exec_branch(s: &mut Scalars, x: &Branch) -> Flow
     requires { IsBranch x.now }
@@ -103,6 +105,7 @@ pub fn exec_branch(s: &mut Scalars, x: &Branch) -> Flow
 }
 
 /// Branches to the address in a register.
+#[inline(always)]
 #[tactic(auto, unfolding(crate::specs::Branches::branch_to, crate::specs::Step::flowed))]
 pub fn exec_branch_register(s: &mut Scalars, x: &BranchRegister) -> Flow
     requires { x.now.rn < 32 }

@@ -13,7 +13,7 @@ use sm_types::{
 };
 
 /// Tells whether the flags meet the condition.
-#[inline]
+#[inline(always)]
 #[tactic(auto, unfolding(crate::specs::Conditional::condition_holds))]
 pub fn holds(condition: Condition, s: &Scalars) -> bool
     ensures { result ≡ condition_holds condition s.now }
@@ -39,7 +39,7 @@ pub fn holds(condition: Condition, s: &Scalars) -> bool
 }
 
 /// What is taken of the second register where the condition fails.
-#[inline]
+#[inline(always)]
 #[tactic(auto, unfolding(crate::specs::Conditional::otherwise))]
 fn second(op: SelectOp, value: u64, wide: bool) -> u64
     requires { value < word_size wide }
@@ -54,6 +54,7 @@ fn second(op: SelectOp, value: u64, wide: bool) -> u64
 }
 
 /// Takes one of two registers by a condition.
+#[inline(always)]
 #[tactic(auto, unfolding(crate::specs::Conditional::conditional_select))]
 pub fn exec_conditional_select(s: &mut Scalars, x: &ConditionalSelect)
     requires { IsConditionalSelect x.now }
@@ -69,7 +70,7 @@ pub fn exec_conditional_select(s: &mut Scalars, x: &ConditionalSelect)
 }
 
 /// A register or an immediate.
-#[inline]
+#[inline(always)]
 fn operand(s: &Scalars, operand: CompareOperand, wide: bool) -> u64
     requires { IsCompareOperand operand }
     ensures value { result ≡ compared operand wide s.now }
@@ -82,7 +83,7 @@ fn operand(s: &Scalars, operand: CompareOperand, wide: bool) -> u64
 }
 
 /// The flags of the sum, or of the difference.
-#[inline]
+#[inline(always)]
 #[tactic(auto, unfolding(crate::specs::Conditional::compare_flags))]
 fn compare(op: CompareOp, a: u64, b: u64, wide: bool) -> Nzcv
     requires a { a < word_size wide }
@@ -96,7 +97,7 @@ fn compare(op: CompareOp, a: u64, b: u64, wide: bool) -> Nzcv
 }
 
 /// The flags of the bits N, Z, C and V.
-#[inline]
+#[inline(always)]
 #[tactic(auto, unfolding(crate::specs::Conditional::flags_of))]
 fn flags(nzcv: u8) -> Nzcv
     requires { nzcv < 2 ^ 4 }
@@ -111,6 +112,7 @@ fn flags(nzcv: u8) -> Nzcv
 }
 
 /// Compares where a condition holds, and else sets the flags of the instruction.
+#[inline(always)]
 #[tactic(auto, unfolding(crate::specs::Conditional::conditional_compare))]
 pub fn exec_conditional_compare(s: &mut Scalars, x: &ConditionalCompare)
     requires { IsConditionalCompare x.now }

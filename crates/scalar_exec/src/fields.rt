@@ -5,7 +5,7 @@ ghost use Rattle.bit_ops.specs.Bits.{width_of};
 ghost use Rattle.scalar_exec.specs.Moves.{with_field};
 
 /// A field of so many bits.
-#[inline]
+#[inline(always)]
 pub fn field_at(value: u64, low: u32, count: u32) -> u64
     requires low { low < 64 }
     requires some { 0 < count }
@@ -17,7 +17,7 @@ pub fn field_at(value: u64, low: u32, count: u32) -> u64
 }
 
 /// A field of so many bits, at a place.
-#[inline]
+#[inline(always)]
 pub fn shifted_field(field: u64, count: u32, place: u32) -> u64
     requires field { field < 2 ^ count }
     requires some { 0 < count }
@@ -29,7 +29,7 @@ pub fn shifted_field(field: u64, count: u32, place: u32) -> u64
 }
 
 /// The bits from a place on.
-#[inline]
+#[inline(always)]
 #[tactic(auto, using(crate::proofs::Parts::high_room))]
 fn high_part(value: u64, top: u32) -> u64
     requires { top ≤ 64 }
@@ -40,7 +40,7 @@ fn high_part(value: u64, top: u32) -> u64
 }
 
 /// The bits below a place.
-#[inline]
+#[inline(always)]
 pub fn low_part(value: u64, place: u32) -> u64
     requires { place < 64 }
     ensures value { result ≡ value % 2 ^ place }
@@ -50,7 +50,7 @@ pub fn low_part(value: u64, place: u32) -> u64
 }
 
 /// Ones from a place on, to the top of the word.
-#[inline]
+#[inline(always)]
 pub fn ones_above(wide: bool, top: u32) -> u64
     requires { top ≤ width_of wide }
     ensures { result ≡ word_size wide - 2 ^ top }
@@ -67,7 +67,7 @@ pub fn ones_above(wide: bool, top: u32) -> u64
 }
 
 /// The old word with the bits from a place on replaced by the field.
-#[inline]
+#[inline(always)]
 #[tactic(auto, unfolding(crate::specs::Moves::with_field))]
 pub fn insert(field: u64, count: u32, place: u32, old: u64) -> u64
     requires field { field < 2 ^ count }
@@ -79,7 +79,7 @@ pub fn insert(field: u64, count: u32, place: u32, old: u64) -> u64
 }
 
 /// How many bits a word has.
-#[inline]
+#[inline(always)]
 pub fn width(wide: bool) -> u32
     ensures value { result ≡ width_of wide }
     ensures small { result ≤ 64 }
@@ -88,7 +88,7 @@ pub fn width(wide: bool) -> u32
 }
 
 /// The power of two.
-#[inline]
+#[inline(always)]
 pub fn power(exponent: u32) -> u64
     requires { exponent < 64 }
     ensures { result ≡ 2 ^ exponent }

@@ -4,19 +4,31 @@
 //! `exec_scalar` changes all registers but PC, and says where PC goes; the caller moves it.
 #![tactic(auto)]
 
+mod apart;
 mod branches;
 mod conditional;
 mod exec;
 mod fields;
+mod flat;
+mod flat_of;
+mod forms;
 mod logic;
 mod moves;
 mod multiply;
 mod operands;
+mod payloads;
 mod registers;
 mod sources;
 mod sums;
 
 pub use branches::{address_at, branch_target};
 pub use exec::{Flow, exec_scalar};
+pub use flat::{Flat, exec_at, exec_next, flat_means};
+pub use flat_of::flatten;
+pub use forms::{access_of, offset_access, pair_at, pair_of};
 pub use operands::{extend, extend_sign};
+pub use payloads::{
+    Base, BitFields, Comparison, Extended, Factors, Halfword, Immediate, IndexedPair, LeftShifted,
+    OffsetAccess, Pair, Registers, Selection, Shifted,
+};
 pub use registers::{next_address, read_x, read_x_or_sp, write_flags, write_x, write_x_or_sp};

@@ -12,7 +12,7 @@ use crate::registers::{low_word, register, write_x};
 use sm_types::{BitfieldMove, BitfieldOp, Extract, MoveOp, MoveWide, Scalars};
 
 /// The immediate at its halfword.
-#[inline]
+#[inline(always)]
 fn halfword(x: &MoveWide) -> u64
     requires { IsMoveWide x.now }
     ensures value { result ≡ halfword_of x.now }
@@ -28,6 +28,7 @@ fn halfword(x: &MoveWide) -> u64
 }
 
 /// Moves a halfword.
+#[inline(always)]
 #[tactic(auto, unfolding(crate::specs::Moves::moved, crate::specs::Moves::move_wide))]
 pub fn exec_move_wide(s: &mut Scalars, x: &MoveWide)
     requires { IsMoveWide x.now }
@@ -48,7 +49,7 @@ pub fn exec_move_wide(s: &mut Scalars, x: &MoveWide)
 }
 
 /// A field of so many bits at a place.
-#[inline]
+#[inline(always)]
 #[tactic(auto, unfolding(crate::specs::Moves::placed))]
 fn place_field(op: BitfieldOp, wide: bool, field: u64, count: u32, place: u32, old: u64) -> u64
     requires field { field < 2 ^ count }
@@ -71,7 +72,7 @@ fn place_field(op: BitfieldOp, wide: bool, field: u64, count: u32, place: u32, o
 }
 
 /// The word after a bit field move.
-#[inline]
+#[inline(always)]
 #[tactic(auto, unfolding(crate::specs::Moves::bitfield_of))]
 fn bitfield(x: &BitfieldMove, from: u64, old: u64) -> u64
     requires immr { x.now.immr < width_of x.now.wide }
@@ -94,6 +95,7 @@ fn bitfield(x: &BitfieldMove, from: u64, old: u64) -> u64
 }
 
 /// Moves a bit field.
+#[inline(always)]
 #[tactic(auto, unfolding(crate::specs::Moves::bitfield_move))]
 pub fn exec_bitfield_move(s: &mut Scalars, x: &BitfieldMove)
     requires { IsBitfieldMove x.now }
@@ -107,7 +109,7 @@ pub fn exec_bitfield_move(s: &mut Scalars, x: &BitfieldMove)
 }
 
 /// The word from a bit on of the first word above the second.
-#[inline]
+#[inline(always)]
 fn joined(high: u64, low: u64, lsb: u32, wide: bool) -> u64
     requires high { high < word_size wide }
     requires low { low < word_size wide }

@@ -9,7 +9,7 @@ use crate::registers::{low_word, register, write_x};
 use sm_types::{Multiply, Scalars};
 
 /// The accumulator plus or less a product.
-#[inline]
+#[inline(always)]
 #[tactic(auto, unfolding(crate::specs::Sources::accumulated))]
 fn accumulate(a: u64, product: u64, subtract: bool, wide: bool) -> u64
     requires a { a < word_size wide }
@@ -24,7 +24,7 @@ fn accumulate(a: u64, product: u64, subtract: bool, wide: bool) -> u64
 }
 
 /// The low word of the product of two words.
-#[inline]
+#[inline(always)]
 fn low_product(n: u64, m: u64, wide: bool) -> u64
     requires n { n < word_size wide }
     requires m { m < word_size wide }
@@ -35,7 +35,7 @@ fn low_product(n: u64, m: u64, wide: bool) -> u64
 }
 
 /// A word of 32 bits as a signed number.
-#[inline]
+#[inline(always)]
 fn signed_narrow(n: u64) -> i64
     requires { n < 2 ^ 32 }
     ensures { result ≡ signed_word false n }
@@ -44,7 +44,7 @@ fn signed_narrow(n: u64) -> i64
 }
 
 /// The product of two words of 64 bits as signed numbers.
-#[inline]
+#[inline(always)]
 fn wide_product(n: u64, m: u64) -> i128
     ensures { result ≡ signed_word true n *ℤ signed_word true m }
 {
@@ -52,7 +52,7 @@ fn wide_product(n: u64, m: u64) -> i128
 }
 
 /// The upper 64 bits of a number of 128.
-#[inline]
+#[inline(always)]
 fn upper_word(both: i128) -> i64
     ensures { result ≡ int_div_euclid both (pos (2 ^ 64)) }
 {
@@ -60,7 +60,7 @@ fn upper_word(both: i128) -> i64
 }
 
 /// The product of two words of 32 bits.
-#[inline]
+#[inline(always)]
 #[tactic(auto, unfolding(crate::specs::Sources::long_product))]
 fn product(n: u64, m: u64, signed: bool) -> u64
     requires n { n < 2 ^ 32 }
@@ -75,7 +75,7 @@ fn product(n: u64, m: u64, signed: bool) -> u64
 }
 
 /// The upper 64 bits of the product of two words of 64 bits.
-#[inline]
+#[inline(always)]
 #[tactic(auto, unfolding(crate::specs::Sources::high_product))]
 fn upper_product(n: u64, m: u64, signed: bool) -> u64
     ensures { result ≡ high_product signed n m }
@@ -88,6 +88,7 @@ fn upper_product(n: u64, m: u64, signed: bool) -> u64
 }
 
 /// Multiplies registers.
+#[inline(always)]
 #[tactic(auto, unfolding(crate::specs::Sources::multiply))]
 pub fn exec_multiply(s: &mut Scalars, x: &Multiply)
     requires { IsMultiply x.now }

@@ -11,7 +11,7 @@ use bit_ops::shift;
 use sm_types::{Extend, ExtendedRegister, Scalars, ShiftKind, ShiftedRegister};
 
 /// Every bit of a word inverted.
-#[inline]
+#[inline(always)]
 pub fn invert(value: u64, wide: bool) -> u64
     requires { value < word_size wide }
     ensures value { result ≡ inverted wide value }
@@ -25,7 +25,7 @@ pub fn invert(value: u64, wide: bool) -> u64
 }
 
 /// The shift of an operand.
-#[inline]
+#[inline(always)]
 fn shift_kind(kind: ShiftKind) -> bit_ops::ShiftKind
     ensures { result ≡ shift_of kind }
 {
@@ -38,7 +38,7 @@ fn shift_kind(kind: ShiftKind) -> bit_ops::ShiftKind
 }
 
 /// The register, shifted.
-#[inline]
+#[inline(always)]
 pub fn shifted_operand(s: &Scalars, x: &ShiftedRegister, wide: bool) -> u64
     requires { IsShiftedRegister wide x.now }
     ensures value { result ≡ shift_reg wide x.now s.now }
@@ -49,7 +49,7 @@ pub fn shifted_operand(s: &Scalars, x: &ShiftedRegister, wide: bool) -> u64
 }
 
 /// The low bits of a value with the top one of them in all places above, to a word.
-#[inline]
+#[inline(always)]
 #[tactic(auto, unfolding(crate::specs::Operands::sign_extend))]
 pub fn extend_sign(value: u64, from: u32, wide: bool) -> u64
     requires some { 0 < from }
@@ -66,7 +66,7 @@ pub fn extend_sign(value: u64, from: u32, wide: bool) -> u64
 }
 
 /// The low bits of a value, extended to a word.
-#[inline]
+#[inline(always)]
 #[tactic(auto, unfolding(crate::specs::Operands::extended))]
 pub fn extend(value: u64, kind: Extend, wide: bool) -> u64
     ensures value { result ≡ extended kind wide value }
@@ -85,7 +85,7 @@ pub fn extend(value: u64, kind: Extend, wide: bool) -> u64
 }
 
 /// The register, extended and then shifted left within the word.
-#[inline]
+#[inline(always)]
 #[tactic(auto, unfolding(crate::specs::Operands::extend_reg))]
 pub fn extended_operand(s: &Scalars, x: &ExtendedRegister, wide: bool) -> u64
     requires { IsExtendedRegister x.now }

@@ -8,7 +8,7 @@ use bit_ops::Nzcv;
 use sm_types::Scalars;
 
 /// The word of a value: all of it where `wide`, else its low 32 bits.
-#[inline]
+#[inline(always)]
 pub fn low_word(value: u64, wide: bool) -> u64
     ensures value { result ≡ value % word_size wide }
     ensures small { result < word_size wide }
@@ -17,7 +17,7 @@ pub fn low_word(value: u64, wide: bool) -> u64
 }
 
 /// The 64 bits of the register; number 31 is zero.
-#[inline]
+#[inline(always)]
 #[tactic(auto, unfolding(crate::specs::Registers::x_of))]
 pub fn read_x(s: &Scalars, n: u8) -> u64
     requires { n < 32 }
@@ -27,7 +27,7 @@ pub fn read_x(s: &Scalars, n: u8) -> u64
 }
 
 /// The 64 bits of the register; number 31 is SP.
-#[inline]
+#[inline(always)]
 #[tactic(auto, unfolding(crate::specs::Registers::x_or_sp))]
 pub fn read_x_or_sp(s: &Scalars, n: u8) -> u64
     requires { n < 32 }
@@ -37,7 +37,7 @@ pub fn read_x_or_sp(s: &Scalars, n: u8) -> u64
 }
 
 /// The register of the width; number 31 is zero.
-#[inline]
+#[inline(always)]
 pub fn register(s: &Scalars, n: u8, wide: bool) -> u64
     requires { n < 32 }
     ensures value { result ≡ register_of wide s.now n }
@@ -47,7 +47,7 @@ pub fn register(s: &Scalars, n: u8, wide: bool) -> u64
 }
 
 /// The register of the width; number 31 is SP.
-#[inline]
+#[inline(always)]
 pub fn register_or_sp(s: &Scalars, n: u8, wide: bool) -> u64
     requires { n < 32 }
     ensures value { result ≡ register_or_sp wide s.now n }
@@ -57,7 +57,7 @@ pub fn register_or_sp(s: &Scalars, n: u8, wide: bool) -> u64
 }
 
 /// Writes a register; number 31 keeps nothing.
-#[inline]
+#[inline(always)]
 #[tactic(auto, unfolding(crate::specs::Registers::with_x))]
 pub fn write_x(s: &mut Scalars, d: u8, value: u64)
     requires { d < 32 }
@@ -70,7 +70,7 @@ pub fn write_x(s: &mut Scalars, d: u8, value: u64)
 }
 
 /// Writes a register; number 31 is SP.
-#[inline]
+#[inline(always)]
 #[tactic(auto, unfolding(crate::specs::Registers::with_x_or_sp))]
 pub fn write_x_or_sp(s: &mut Scalars, d: u8, value: u64)
     requires { d < 32 }
@@ -85,7 +85,7 @@ pub fn write_x_or_sp(s: &mut Scalars, d: u8, value: u64)
 }
 
 /// Sets the four flags.
-#[inline]
+#[inline(always)]
 #[tactic(auto, unfolding(crate::specs::Registers::with_flags))]
 pub fn write_flags(s: &mut Scalars, flags: Nzcv)
     ensures value { s.new ≡ with_flags s.old flags }
@@ -98,7 +98,7 @@ pub fn write_flags(s: &mut Scalars, flags: Nzcv)
 }
 
 /// The address of the next instruction.
-#[inline]
+#[inline(always)]
 pub fn next_address(pc: u64) -> u64
     ensures { result ≡ next_address pc }
 {

@@ -14,7 +14,7 @@ use bit_ops::{ShiftKind, count_signs, count_zeros, reverse_bits, reverse_bytes, 
 use sm_types::{OneSource, OneSourceOp, Scalars, TwoSource, TwoSourceOp};
 
 /// The bits of the word or the bytes of its groups in reverse, or a count from its top.
-#[inline]
+#[inline(always)]
 #[tactic(auto, unfolding(crate::specs::Sources::one_source_value))]
 fn one_value(op: OneSourceOp, value: u64, wide: bool) -> u64
     requires value { value < word_size wide }
@@ -43,7 +43,7 @@ pub fn exec_one_source(s: &mut Scalars, x: &OneSource)
 }
 
 /// The quotient of two words; 0 where the divisor is 0.
-#[inline]
+#[inline(always)]
 #[tactic(auto, unfolding(crate::specs::Sources::quotient))]
 fn divide(n: u64, m: u64) -> u64
     ensures { result ≡ quotient n m }
@@ -52,7 +52,7 @@ fn divide(n: u64, m: u64) -> u64
 }
 
 /// The quotient of two signed words, rounded towards zero; 0 where the divisor is 0.
-#[inline]
+#[inline(always)]
 #[tactic(auto, unfolding(crate::specs::Sources::signed_quotient))]
 fn divide_signed(n: u64, m: u64, wide: bool) -> u64
     requires n { n < word_size wide }
@@ -76,7 +76,7 @@ fn divide_signed(n: u64, m: u64, wide: bool) -> u64
 }
 
 /// A shift of the first word by the second, modulo the width.
-#[inline]
+#[inline(always)]
 fn shift_by(n: u64, m: u64, kind: ShiftKind, wide: bool) -> u64
     requires n { n < word_size wide }
     ensures { result ≡ shifted kind wide n (m % width_of wide) }
@@ -85,7 +85,7 @@ fn shift_by(n: u64, m: u64, kind: ShiftKind, wide: bool) -> u64
 }
 
 /// A quotient or a shift.
-#[inline]
+#[inline(always)]
 #[tactic(auto, unfolding(crate::specs::Sources::two_source_value))]
 fn two_value(op: TwoSourceOp, n: u64, m: u64, wide: bool) -> u64
     requires n { n < word_size wide }
@@ -103,6 +103,7 @@ fn two_value(op: TwoSourceOp, n: u64, m: u64, wide: bool) -> u64
 }
 
 /// Divides, or shifts by a register.
+#[inline(always)]
 #[tactic(auto, unfolding(crate::specs::Sources::two_source))]
 pub fn exec_two_source(s: &mut Scalars, x: &TwoSource)
     requires { IsTwoSource x.now }

@@ -12,7 +12,7 @@ use bit_ops::add_carry;
 use sm_types::{AddSub, AddSubCarry, AddSubExtended, AddSubImmediate, AddSubRegister, Scalars};
 
 /// The sum with a carry, or that with the second operand inverted, to a register and the flags.
-#[inline]
+#[inline(always)]
 #[tactic(auto, unfolding(crate::specs::Sums::sum_to_x))]
 fn write_sum(s: &mut Scalars, op: AddSub, wide: bool, d: u8, a: u64, b: u64, carry: bool)
     requires d { d < 32 }
@@ -44,7 +44,7 @@ fn write_sum(s: &mut Scalars, op: AddSub, wide: bool, d: u8, a: u64, b: u64, car
 }
 
 /// The sum or difference to a register, which may be SP where no flags are set.
-#[inline]
+#[inline(always)]
 #[tactic(auto, unfolding(crate::specs::Sums::sum_to_sp))]
 fn write_sum_or_sp(s: &mut Scalars, op: AddSub, wide: bool, d: u8, a: u64, b: u64)
     requires d { d < 32 }
@@ -68,7 +68,7 @@ fn write_sum_or_sp(s: &mut Scalars, op: AddSub, wide: bool, d: u8, a: u64, b: u6
 }
 
 /// The carry into a sum or a difference.
-#[inline]
+#[inline(always)]
 fn carry_into(op: AddSub) -> bool
     ensures { bool_number result ≡ carry_of op }
 {
@@ -76,7 +76,7 @@ fn carry_into(op: AddSub) -> bool
 }
 
 /// The immediate, shifted where the instruction says so.
-#[inline]
+#[inline(always)]
 fn immediate(x: &AddSubImmediate) -> u64
     requires { x.now.imm < 2 ^ 12 }
     ensures value { result ≡ immediate_of x.now }
@@ -87,6 +87,7 @@ fn immediate(x: &AddSubImmediate) -> u64
 }
 
 /// Adds or subtracts an immediate.
+#[inline(always)]
 #[tactic(auto, unfolding(crate::specs::Sums::add_sub_immediate))]
 pub fn exec_add_sub_immediate(s: &mut Scalars, x: &AddSubImmediate)
     requires { IsAddSubImmediate x.now }
@@ -98,6 +99,7 @@ pub fn exec_add_sub_immediate(s: &mut Scalars, x: &AddSubImmediate)
 }
 
 /// Adds or subtracts a shifted register.
+#[inline(always)]
 #[tactic(auto, unfolding(crate::specs::Sums::add_sub_register))]
 pub fn exec_add_sub_register(s: &mut Scalars, x: &AddSubRegister)
     requires { IsAddSubRegister x.now }
@@ -110,6 +112,7 @@ pub fn exec_add_sub_register(s: &mut Scalars, x: &AddSubRegister)
 }
 
 /// Adds or subtracts an extended register.
+#[inline(always)]
 #[tactic(auto, unfolding(crate::specs::Sums::add_sub_extended))]
 pub fn exec_add_sub_extended(s: &mut Scalars, x: &AddSubExtended)
     requires { IsAddSubExtended x.now }

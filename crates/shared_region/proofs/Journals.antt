@@ -3,6 +3,7 @@ use Rattle.std.proofs.Common.{◌≡◌, ℕ, zero, suc, ◌+◌, ◌≤◌, Lis
 use Rattle.std.proofs.Common.{sym, ap, ◌∙◌, arith, add-one}
 use Rattle.std.specs.Prelude.{Option, Some, None, slice_get}
 use Rattle.std.proofs.lemmas.Option.{same_Some, none-some, slice_get_within}
+use Rattle.plain_lemmas.proofs.Lists.{cons_inj_left, take-suc_at}
 use Rattle.sm_types.specs.declared.shared_op.SharedOp.{SharedOp}
 use Rattle.sm_types.specs.declared.shared_op.Event.{Event}
 use Rattle.shared_region.specs.Ports.{ReplayEvents, IsAtEnd, Strays, ReplayGives}
@@ -22,13 +23,6 @@ next_ahead [] place next at = absurd (none-some next at)
 next_ahead (x ∷ xs) zero next at = ap (λ (y : Event). y ∷ xs) (same_Some x next at)
 next_ahead (x ∷ xs) (suc i) next at = next_ahead xs i next at
 
--- and the last that is answered after it
-pub next_answered : (journal : List Event) (place : ℕ) (next : Event) → slice_get journal place ≡ Some next
-    → take (suc place) journal ≡ take place journal ++ next ∷ []
-next_answered [] place next at = absurd (none-some next at)
-next_answered (x ∷ xs) zero next at = ap (λ (y : Event). y ∷ []) (same_Some x next at)
-next_answered (x ∷ xs) (suc i) next at = ap (λ (ys : List Event). x ∷ ys) (next_answered xs i next at)
-
 -- what a ticket tells
 abbrev pub told : ℕ → List Event → ℕ → ReplayEvents
 told thread journal place = record { thread = thread; answered = take place journal; ahead = drop place journal }
@@ -46,7 +40,7 @@ is_next t thread journal found place o next view same looked is =
     let within = slice_get_within journal place next at in
     record {
       ahead = rw (add-one place) (ap (λ (u : ReplayEvents). u.ahead) (sym view) ∙ next_ahead journal place next at);
-      answered = rw (add-one place) (next_answered journal place next at ∙ ap (λ (u : ReplayEvents). u.answered ++ next ∷ []) view);
+      answered = rw (add-one place) (take-suc_at journal place next at ∙ ap (λ (u : ReplayEvents). u.answered ++ next ∷ []) view);
       inside = omega (arith, within);
     }
 
@@ -59,11 +53,8 @@ is_at_end t thread journal found place o view same looked is =
 not_both : (e : Event) (es : List Event) → [] ≡ e ∷ es → ⊥
 not_both e es p = cc
 
-same_first : (x y : Event) (xs ys : List Event) → x ∷ xs ≡ y ∷ ys → x ≡ y
-same_first x y xs ys p = cc
-
 same_op : (x y : Event) (xs ys : List Event) → x ∷ xs ≡ y ∷ ys → x.op ≡ y.op
-same_op x y xs ys p = ap (λ (e : Event). e.op) (same_first x y xs ys p)
+same_op x y xs ys p = ap (λ (e : Event). e.op) (cons_inj_left x y xs ys p)
 
 -- a ticket whose next event has that operation is neither at its end nor astray
 pub goes_on : (t : ReplayEvents) (journal : List Event) (place : ℕ) (next : Event) (op : SharedOp)

@@ -2,6 +2,7 @@
 use Rattle.std.proofs.Common.{◌≡◌, ℕ, zero, suc, ◌+◌, ◌-◌, ◌*◌, ◌%◌, ◌^◌, ◌≤◌, Bool, true, false, List, [], ◌∷◌, ◌++◌}
 use Rattle.std.proofs.Common.{length, take, drop, length-drop, Option, Some, None, refl, ap, sym, ◌∙◌, arith}
 use Rattle.std.specs.Prelude.{◌&&◌, nat_lt, if◌then◌else◌, unwrap_or}
+use Rattle.plain_lemmas.proofs.Options.{neither_some}
 use Rattle.paged_memory.specs.Memory.{AddressSpace, byte_with, bytes_with, and_byte, unless_there, first_without}
 use Rattle.paged_memory.proofs.Accesses.{first_without-none}
 use Rattle.machine_step.specs.ProcessorState.{ProcessorState}
@@ -10,7 +11,6 @@ use Rattle.signal_frames.specs.Saved.{saved_length, saved_size, saved_za_on, sav
 use Rattle.signal_frames.specs.Return.{count_read, read_at, stop_of, fault_at, restored, returned, unmasked}
 use Rattle.signal_frames.specs.Reading.{StandsAt, IsSaved}
 use Rattle.signal_frames.specs.declared.head.Expected.{Expected}
-use Rattle.paged_memory.proofs.Ready.{neither}
 use Rattle.signal_frames.proofs.Lengths.{least_head}
 use Rattle.signal_frames.proofs.Fetching.{length-bytes_with, front_read, rest_read}
 use Rattle.signal_frames.proofs.Fields.{number_in_head, head_in_head, HeadSays, head_says}
@@ -37,7 +37,7 @@ unfolding first_without bytes_with
 all_read need m a zero h = ([], refl)
 all_read need m a (suc n) h =
     let parts : (first_without need m a n ≡ None) × (unless_there ((a + n) % 2 ^ 64) (byte_with need m ((a + n) % 2 ^ 64)) ≡ None) =
-    neither (first_without need m a n) (unless_there ((a + n) % 2 ^ 64) (byte_with need m ((a + n) % 2 ^ 64))) h in
+    neither_some (first_without need m a n) (unless_there ((a + n) % 2 ^ 64) (byte_with need m ((a + n) % 2 ^ 64))) h in
     let before : (bs : List ℕ) × (bytes_with need m a n ≡ Some bs) = all_read need m a n parts.0 in
     let last : (b : ℕ) × (byte_with need m ((a + n) % 2 ^ 64) ≡ Some b) =
     byte_there ((a + n) % 2 ^ 64) (byte_with need m ((a + n) % 2 ^ 64)) parts.1 in (

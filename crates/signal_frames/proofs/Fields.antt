@@ -5,6 +5,7 @@ use Rattle.std.proofs.Common.{Bool, true, false, eqb-true}
 use Rattle.std.proofs.lemmas.List.FromFn.{fill_by_all, length-map-range_with_len, get_or-map-range_with_len}
 use Rattle.std.specs.Prelude.{map, nat_lt, ◌%◌, ◌^◌, ◌==◌, ◌&&◌, if◌then◌else◌}
 use Rattle.std.proofs.lemmas.Bool.Decides.{nat_tests}
+use Rattle.std.proofs.lemmas.Bool.{and_parts}
 use Rattle.std.specs.List.{range_with_len}
 use Rattle.byteorder.specs.Endian.{little_number, IsRead}
 use Rattle.byteorder.specs.Numbers.{little_from-take}
@@ -91,10 +92,6 @@ pub saved_in_head : (version : Version) (frame : List ℕ) → saved_masking ver
 saved_in_head One frame = refl
 saved_in_head Two frame = rw (number_in_head 336 frame 320 8 (omega arith), number_in_head 336 frame 328 4 (omega arith)) refl
 
-both : (a b : Bool) → (a && b) ≡ true → (a ≡ true) × (b ≡ true)
-both true b h = (refl, h)
-both false b h = cc
-
 -- what the fields of a frame say of its lengths
 pub record HeadSays (e : Expected) (head : List ℕ) : Type 0 where
   pub length : saved_length head ≡ (if saved_streaming head then e.svl else e.vl)
@@ -104,12 +101,12 @@ pub record HeadSays (e : Expected) (head : List ℕ) : Type 0 where
 pub head_says : (e : Expected) (head : List ℕ) → is_head e head ≡ true → HeadSays e head
 unfolding is_head has_sizes
 head_says e head h =
-    let o = both _ _ h in
-    let p = both _ _ o.0 in
-    let q = both _ _ p.0 in
-    let r = both _ _ q.0 in
-    let sizes = both _ _ r.1 in
-    let lengths = both _ _ sizes.0 in
+    let o = and_parts _ _ h in
+    let p = and_parts _ _ o.0 in
+    let q = and_parts _ _ p.0 in
+    let r = and_parts _ _ q.0 in
+    let sizes = and_parts _ _ r.1 in
+    let lengths = and_parts _ _ sizes.0 in
     record {
       length = eqb-true (saved_length head) (if saved_streaming head then e.svl else e.vl) lengths.0;
       array = eqb-true (saved_array_size head) e.svl lengths.1;
@@ -127,12 +124,12 @@ masking_below One depth frame h = omega arith
 masking_below Two depth frame h =
     let mask : Bool = (number_at frame 320 8 % 2 == 0) && nat_lt (number_at frame 320 8) (2 ^ 63) in
     let below : Bool = nat_lt (number_at frame 328 4) depth in
-    let tested : below ≡ true = (both mask below (both (mask && below) (number_at frame 332 4 == 0) h).0).1 in
+    let tested : below ≡ true = (and_parts mask below (and_parts (mask && below) (number_at frame 332 4 == 0) h).0).1 in
     under (number_at frame 328 4) depth tested
 
 pub saved_below : (e : Expected) (frame : List ℕ) → is_head e frame ≡ true → (saved_masking e.version frame).depth ≤ e.depth
 unfolding is_head
-saved_below e frame h = let o = both _ _ h in masking_below e.version e.depth frame o.1
+saved_below e frame h = let o = and_parts _ _ h in masking_below e.version e.depth frame o.1
 
 pub either_small : (b : Bool) (x y : ℕ) → x ≤ 256 → y ≤ 256 → (if b then x else y) ≤ 256
 either_small true x y h k = h

@@ -1,15 +1,17 @@
 -- Parts that are written one after the other.
 use Rattle.std.proofs.Common.{◌≡◌, ◌≢◌, ℕ, ◌+◌, ◌/◌, ◌%◌, ◌^◌, ◌<◌, Bool, true, false, cond, List, [], ◌∷◌, ◌++◌}
 use Rattle.std.proofs.Common.{length, take, get_or, Option, Some, None, refl, ap, sym, ◌∙◌, arith, length-append}
-use Rattle.std.proofs.Common.{subst, append_assoc}
+use Rattle.std.proofs.Common.{subst}
 use Rattle.std.proofs.lemmas.List.{append-nil, take_more, take_all}
 use Rattle.std.proofs.lemmas.Grind.{flat_map-append}
+use Rattle.std.proofs.lemmas.List.Folds.{concat-append}
 use Rattle.std.specs.List.{concat, flat_map}
 use Rattle.sve_vectors.specs.Predicates.{predicate_bytes}
 use Rattle.std.specs.Prelude.{IsSome, Result, Ok, Err, OnOk, IfErr}
 use Rattle.std.specs.FinMap.{FinMap, get, insert, get-insert}
 use Rattle.std.specs.Ordering.{nat_cmp, eq_by_cmp}
 use Rattle.std.specs.Cmp.{nat_cmp_total}
+use Rattle.plain_lemmas.proofs.Options.{neither_some}
 use Rattle.paged_memory.specs.Memory.{AddressSpace, byte_with, permits, permitted, first_without, run_of, set_bytes}
 use Rattle.paged_memory.specs.PageTable.{PageTable, AreOwned, OwnsAlso, Owns}
 use Rattle.paged_memory.specs.Accesses.{stopped_at}
@@ -18,7 +20,7 @@ use Rattle.paged_memory.specs.declared.pages.WriteStop.TheVariants as stop
 use Rattle.paged_memory.proofs.Accesses.{first_without-join}
 use Rattle.paged_memory.proofs.Owned.{also_owned, owns_keeps, owns_no_more, owns_then}
 use Rattle.paged_memory.proofs.Over.{set_bytes-append}
-use Rattle.paged_memory.proofs.Ready.{neither, still_none}
+use Rattle.paged_memory.proofs.Ready.{still_none}
 use Rattle.signal_frames.specs.Writing.{IsReady, Puts, PutsPart}
 
 -- ---- what bytes leave of memory that is ready for others
@@ -72,14 +74,14 @@ ready_by old new a n writable owns same = record {
 
 pub ready_front : (pages : PageTable) (a d n : ℕ) → IsReady pages a (d + n) → IsReady pages a d
 ready_front pages a d n ready = record {
-  writable = (neither (first_without 2 pages.memory a d) (first_without 2 pages.memory ((a + d) % 2 ^ 64) n)
+  writable = (neither_some (first_without 2 pages.memory a d) (first_without 2 pages.memory ((a + d) % 2 ^ 64) n)
       (sym (first_without-join 2 pages.memory a d n) ∙ ready.writable)).0;
   owned = λ k l there. ready.owned k (omega arith) there;
 }
 
 pub ready_rest : (pages : PageTable) (a d n : ℕ) → IsReady pages a (d + n) → IsReady pages ((a + d) % 2 ^ 64) n
 ready_rest pages a d n ready = record {
-  writable = (neither (first_without 2 pages.memory a d) (first_without 2 pages.memory ((a + d) % 2 ^ 64) n)
+  writable = (neither_some (first_without 2 pages.memory a d) (first_without 2 pages.memory ((a + d) % 2 ^ 64) n)
       (sym (first_without-join 2 pages.memory a d n) ∙ ready.writable)).1;
   owned = λ k l there.
       let e : ((a + d) % 2 ^ 64 + k) % 2 ^ 64 ≡ (a + (d + k)) % 2 ^ 64 = omega arith in
@@ -144,10 +146,6 @@ puts_both p q r a b c xs ys first second = record { puts = puts; next = next }
         }
 
 -- ---- the parts of a loop
-
-concat-append : (xs ys : List (List ℕ)) → concat (xs ++ ys) ≡ concat xs ++ concat ys
-concat-append [] ys = refl
-concat-append (x ∷ xs) ys = ap (λ k. x ++ k) (concat-append xs ys) ∙ sym (append_assoc x (concat xs) (concat ys))
 
 concat_more : (rows : List (List ℕ)) (n : ℕ) → n < length rows → concat (take (n + 1) rows) ≡ concat (take n rows) ++ get_or rows n []
 concat_more rows n l =

@@ -3,9 +3,9 @@ use Rattle.std.proofs.Common.{◌≡◌, ℕ, zero, suc, ◌+◌, ◌-◌, ◌*�
 use Rattle.std.proofs.Common.{length, take, drop, get_or, refl, ap, sym, ◌∙◌, arith, append_assoc, length-append, eq-eqb}
 use Rattle.std.proofs.lemmas.List.{drop-drop, drop_at, take_at, append-nil, length-replicate, length-map}
 use Rattle.std.proofs.lemmas.List.FromFn.{fill_by_all}
-use Rattle.std.proofs.lemmas.Bool.Decides.{nat_tests}
 use Rattle.std.proofs.Math.Nat.{mul-le-mul_right}
-use Rattle.std.specs.Prelude.{◌&&◌, nat_lt, nat_le, if◌then◌else◌, map, replicate}
+use Rattle.std.proofs.lemmas.Bool.{le-leb, lt-ltb, and_from}
+use Rattle.std.specs.Prelude.{if◌then◌else◌, map, replicate}
 use Rattle.std.specs.List.{concat, flat_map, list_all, range_with_len}
 use Rattle.bit_ops.specs.Sums.{bool_number}
 use Rattle.sm_types.specs.declared.scalars.Scalars.{Scalars}
@@ -156,15 +156,6 @@ masking_is masking mask depth e1 e2 = rw (e1, e2) refl
 
 -- ---- the checks
 
-and_true : (a b : Bool) → a ≡ true → b ≡ true → (a && b) ≡ true
-and_true a b h k = rw (h, k) refl
-
-lt_true : (a b : ℕ) → a < b → nat_lt a b ≡ true
-lt_true a b h = grind (arith, nat_tests)
-
-le_true : (a b : ℕ) → a ≤ b → nat_le a b ≡ true
-le_true a b h = grind (arith, nat_tests)
-
 -- the fields of lengths and modes
 pub record Fields (version : Version) (vl : ℕ) (s : ProcessorState) (frame : List ℕ) : Type 0 where
   pub svcr : saved_svcr frame ≡ svcr_of s
@@ -207,11 +198,11 @@ masked_back Two masking depth vl signal s h ranges may =
     let mask : number_at f 320 8 ≡ masking.mask = rest_at q _ 0 8 masking.mask h.count refl ranges.0 in
     let below : number_at f 328 4 ≡ masking.depth = rest_at q _ 8 4 masking.depth h.count refl ranges.1 in
     let zeros : number_at f 332 4 ≡ 0 = rest_at q _ 12 4 0 h.count refl (omega arith) in
-    and_true _ _
-    (and_true _ _
-    (and_true _ _ (eq-eqb (number_at f 320 8 % 2) 0 (ap (λ k. k % 2) mask ∙ may.0))
-    (lt_true (number_at f 320 8) (2 ^ 63) (omega (arith, mask, may.1))))
-    (lt_true (number_at f 328 4) depth (omega (arith, below, may.2))))
+    and_from _ _
+    (and_from _ _
+    (and_from _ _ (eq-eqb (number_at f 320 8 % 2) 0 (ap (λ k. k % 2) mask ∙ may.0))
+    (lt-ltb (number_at f 320 8) (2 ^ 63) (omega (arith, mask, may.1))))
+    (lt-ltb (number_at f 328 4) depth (omega (arith, below, may.2))))
     (eq-eqb (number_at f 332 4) 0 zeros)
 
 pub head_back : (version : Version) (masking : Masking) (depth vl signal : ℕ) (s : ProcessorState) → IsInRange vl s
@@ -232,20 +223,20 @@ head_back version masking depth vl signal s h least most ranges may =
     let size : saved_size f ≡ frame_size version (saved_length f) n (saved_za_on f) =
     fields.size ∙ ap (λ k. frame_size version k n s.za_on) (sym fields.current)
     ∙ ap (frame_size version (saved_length f) n) (sym fields.za_on) in
-    and_true _ _
-    (and_true _ _
-    (and_true _ _
-    (and_true _ _
-    (and_true _ _ (eq-eqb (number_at f 0 8) (frame_tag version) (tag_at q))
-    (and_true _ _
-    (and_true _ _ (lt_true (saved_svcr f) 4 (omega (arith, fields.svcr, svcr_low s.streaming s.za_on)))
+    and_from _ _
+    (and_from _ _
+    (and_from _ _
+    (and_from _ _
+    (and_from _ _ (eq-eqb (number_at f 0 8) (frame_tag version) (tag_at q))
+    (and_from _ _
+    (and_from _ _ (lt-ltb (saved_svcr f) 4 (omega (arith, fields.svcr, svcr_low s.streaming s.za_on)))
     (eq-eqb (saved_nzcv f % 2 ^ 28) 0 (ap (λ k. k % 2 ^ 28) nzcv ∙ flags.others)))
-    (lt_true (saved_nzcv f) (2 ^ 32) (omega (arith, nzcv, flags.low)))))
-    (and_true _ _
-    (and_true _ _ (eq-eqb (saved_length f) (if saved_streaming f then n else vl) expected) (eq-eqb (saved_array_size f) n fields.array))
+    (lt-ltb (saved_nzcv f) (2 ^ 32) (omega (arith, nzcv, flags.low)))))
+    (and_from _ _
+    (and_from _ _ (eq-eqb (saved_length f) (if saved_streaming f then n else vl) expected) (eq-eqb (saved_array_size f) n fields.array))
     (eq-eqb (saved_size f) (frame_size version (saved_length f) n (saved_za_on f)) size)))
-    (le_true 1 (saved_signal f) (omega (arith, mark))))
-    (le_true (saved_signal f) 62 (omega (arith, mark))))
+    (le-leb 1 (saved_signal f) (omega (arith, mark))))
+    (le-leb (saved_signal f) 62 (omega (arith, mark))))
     (masked_back version masking depth vl signal s h ranges may)
 
 -- ---- the vectors

@@ -1,5 +1,6 @@
 -- A thread that goes on from a place of its recorded run comes to a count as the run does.
 use Rattle.std.proofs.Common.{◌≡◌, ◌≢◌, ℕ, ◌+◌, ◌-◌, ◌<◌, ◌≤◌, List, Option, Some, None, inl, inr, drop, ap, sym, ◌∙◌, subst, arith}
+use Rattle.plain_lemmas.proofs.Numbers.{cases_lt_eq_gt}
 use Rattle.sm_types.specs.declared.config.Config.{Config}
 use Rattle.sm_types.specs.declared.shared_op.Event.{Event}
 use Rattle.sm_types.specs.declared.stop.Stop.{Stop}
@@ -13,7 +14,6 @@ use Rattle.lone_runner.specs.Rest.{IsPartingFrom, IsRestOfRun}
 use Rattle.lone_runner.specs.Resumed.{IsReached, IsResumed, IsPartingFromAll, resumed_at, loose_place}
 use Rattle.lone_runner.specs.declared.fault.AloneFault.{AloneFault}
 use Rattle.lone_runner.specs.declared.fault.AloneFault.TheVariants.{EndsEarly}
-use Rattle.lone_runner.proofs.Places.{compared}
 use Rattle.lone_runner.proofs.Partings.{count_later}
 use Rattle.lone_runner.proofs.Shown.{early, state_standing}
 use Rattle.lone_runner.proofs.Later.{none_later}
@@ -51,7 +51,7 @@ module _ (r : Recording) (n : ℕ) (from : Loose) (p : IsPlace r n (loose_state 
   module _ (count : ℕ) (loose : Loose) (stop : Option Stop) (ticket : ReplayEvents) (most : n ≤ count)
       (q : IsReached from left count loose stop ticket) where
     before : (m : ℕ) → m < begun → counts_by r m ≢ count
-    before m l = elim (compared n count) [
+    before m l = elim (cases_lt_eq_gt n count) [
       | inl less ↦
           let grown = count_later r.program r.config r.thread r.journal count m begun (omega (arith, l)) in
           let at = here in λ same. omega (arith, grown, at, less, same)
@@ -68,7 +68,7 @@ module _ (r : Recording) (n : ℕ) (from : Loose) (p : IsPlace r n (loose_state 
         λ same. omega (arith, less, is, same_place, same)
 
     first : (m : ℕ) → m < begun + q.turns → counts_by r m ≢ count
-    first m l = elim (compared m begun) [
+    first m l = elim (cases_lt_eq_gt m begun) [
       | inl less ↦ before m less
       | inr (inl is) ↦ after m (omega (arith, is)) l
       | inr (inr more) ↦ after m (omega (arith, more)) l

@@ -1,6 +1,7 @@
 -- States of a run that are kept while it is made from its start.
-use Rattle.std.proofs.Common.{◌≡◌, ℕ, zero, suc, ◌≤◌, List, [], ◌∷◌, ◌++◌, Option, None, drop, All, refl, ap, sym, ◌∙◌}
+use Rattle.std.proofs.Common.{◌≡◌, ℕ, ◌≤◌, List, [], ◌∷◌, ◌++◌, Option, None, drop, refl, ap, sym, ◌∙◌}
 use Rattle.std.proofs.Common.{subst, arith, Bool, true, false, if◌then◌else◌}
+use Rattle.std.proofs.lemmas.List.Elements.{All-push}
 use Rattle.sm_types.specs.declared.shared_op.Event.{Event}
 use Rattle.sm_types.specs.declared.stop.Stop.{Stop}
 use Rattle.shared_region.specs.Ports.{ReplayEvents}
@@ -68,13 +69,6 @@ begins_keeping r k later loose ticket h keeps events config thread is none = rec
 
 -- ---- on the way
 
--- what holds of each of a list, and of one more
-all_more : (P : KeptState → Type 0) (list : List KeptState) (x : KeptState) → All P list → P x → All P (list ++ x ∷ [])
-all_more P [] x h p zero d l = p
-all_more P [] x h p (suc k) d l = absurd (omega (arith, l))
-all_more P (y ∷ list) x h p zero d l = h 0 d (omega arith)
-all_more P (y ∷ list) x h p (suc k) d l = all_more P list x (λ j e b. h (suc j) e (omega (arith, b))) p k d (omega (arith, l))
-
 module _ (r : Recording) (later : List KeptState) (old : Loose) (before : ReplayEvents) (h : IsKeeping r later old before) where
   from_there : (next : ℕ) (new : Loose) (stop : Option Stop) (after : ReplayEvents) → IsReached old before.ahead next new stop after
       → IsReached old (drop (loose_events old) r.journal) next new stop after
@@ -111,7 +105,7 @@ module _ (r : Recording) (later : List KeptState) (old : Loose) (before : Replay
       } in
       record {
         later_on_run = subst (AreOnRun r) (sym grown)
-            (all_more (IsOnRun r) later k h.later_on_run
+            (All-push (IsOnRun r) later k h.later_on_run
             (kept_on_run r (loose_state old).count (loose_events old) (loose_state old) k h.place its));
         place = h.place;
         ahead = h.ahead;

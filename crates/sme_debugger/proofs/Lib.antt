@@ -7,3 +7,4 @@ pub mod Recorded
 pub mod Moves
 pub mod Bytes
 pub mod Lines
+pub mod Ahead

@@ -1,18 +1,14 @@
 -- The state of a thread before its first turn may be kept.
-use Rattle.std.proofs.Common.{◌≡◌, ℕ, zero, suc, ◌+◌, ◌<◌, ◌≤◌, Option, Some, None, inl, inr, refl, ap, ◌∙◌, arith, cond, false}
+use Rattle.std.proofs.Common.{◌≡◌, ℕ, zero, suc, ◌+◌, ◌≤◌, Option, Some, None, inl, inr, refl, ap, ◌∙◌, arith, cond}
 use Rattle.std.specs.Prelude.{IsSome}
 use Rattle.std.specs.FinMap.{get, get-insert}
 use Rattle.std.specs.Cmp.{nat_cmp_total}
-use Rattle.std.specs.Ordering.{nat_cmp, eq_by_cmp}
-use Rattle.std.proofs.lemmas.Bool.Decides.{nat_tests}
+use Rattle.plain_lemmas.proofs.Tests.{eq_by_cmp-above}
 use Rattle.sm_types.specs.declared.config.Config.{Config}
 use Rattle.paged_memory.specs.Image.{Program, IsImage, IsLoadablePage}
 use Rattle.paged_memory.specs.Memory.{AddressSpace, with_page, with_zero_pages, with_stack}
 use Rattle.kernel_contexts.specs.State.{start_state}
 use Rattle.kept_states.specs.Fields.{MayBeKept}
-
-other_page : (n q : ℕ) → n < q → eq_by_cmp nat_cmp q n ≡ false
-other_page n q l = grind (arith, nat_tests)
 
 -- a page past some more pages is as it was
 past_pages : (m : AddressSpace) (first q n : ℕ) → first + n ≤ q → get (with_zero_pages m first 6 n).perm q ≡ get m.perm q
@@ -20,7 +16,7 @@ unfolding with_zero_pages with_page
 past_pages m first q zero l = refl
 past_pages m first q (suc n) l =
     get-insert nat_cmp_total (with_zero_pages m first 6 n).perm (first + n) 6 q
-    ∙ ap (λ b. cond b (Some 6) (get (with_zero_pages m first 6 n).perm q)) (other_page (first + n) q (omega (arith, l)))
+    ∙ ap (λ b. cond b (Some 6) (get (with_zero_pages m first 6 n).perm q)) (eq_by_cmp-above (first + n) q (omega (arith, l)))
     ∙ past_pages m first q n (omega (arith, l))
 
 past_stack : (m : AddressSpace) → get (with_stack m).perm 0x7F0000000 ≡ get m.perm 0x7F0000000

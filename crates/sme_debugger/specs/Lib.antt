@@ -5,3 +5,4 @@ pub mod Standing
 pub mod OneProof
 pub mod Replayed
 pub mod Session
+pub mod AtAddress

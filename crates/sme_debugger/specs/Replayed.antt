@@ -1,6 +1,7 @@
 -- A thread on its recorded run, and how it comes to a count.
-use Rattle.std.specs.Prelude.{◌≡◌, ℕ, ◌<◌, ◌≤◌, Some, None}
-use Rattle.sme_debugger.specs.Recording.{Recording, recorded}
+use Rattle.std.specs.Prelude.{◌≡◌, ◌≢◌, ℕ, ◌<◌, ◌≤◌, Some, None}
+use Rattle.kernel_contexts.specs.State.{State}
+use Rattle.sme_debugger.specs.Recording.{Recording, Shows, recorded}
 use Rattle.sme_debugger.specs.declared.replay.Replay.{Replay}
 
 -- the run
@@ -13,3 +14,9 @@ pub record IsOnTheWay (r : Replay) (count : ℕ) : Type 0 where
   pub is : r.shown ≡ Some shown
   pub most : shown ≤ count
   pub runs : shown < count → r.stop ≡ None
+
+-- no state that is shown from the one count on and before the other has this PC
+abbrev pub NoneFrom : Recording → ℕ → ℕ → ℕ → Type 0
+NoneFrom r first below address =
+    (count : ℕ) (s : State)
+    → first ≤ count → count < below → Shows r count s → s.core.scalars.pc ≢ address

@@ -3,6 +3,7 @@
 //! there in the run of the thread alone.
 #![tactic(auto)]
 
+mod at_address;
 mod fault;
 mod replay;
 mod session;

@@ -13,6 +13,7 @@ ghost use Rattle.sme_debugger.specs.Recording.{Recording, recorded};
 ghost use Rattle.sme_debugger.specs.Standing.{IsOnRun, AreOnRun, IsOfRun, IsShowing, IsKeeping};
 ghost use Rattle.sme_debugger.specs.OneProof.{IsOnRun-prop, AreOnRun-prop, IsShowing-prop};
 
+use crate::at_address::AtAddress;
 use kept_states::KeptState;
 use kernel_contexts::{Context, Loose};
 use lone_runner::{AloneFault, JournalTicket, resume_to, resume_to_end};
@@ -155,7 +156,7 @@ impl Replay {
     ghost use Rattle.std.specs.Prelude.{true, false, Some};
     ghost use Rattle.lone_runner.specs.Parting.{EndsAt};
     ghost use Rattle.sme_debugger.specs.Recording.{Shows};
-    ghost use Rattle.sme_debugger.specs.Replayed.{recording_in, IsOnTheWay};
+    ghost use Rattle.sme_debugger.specs.Replayed.{recording_in, IsOnTheWay, NoneFrom};
 
     /// A thread on its run, which is to end at `count` with all events of the journal used. Else the fault is
     /// the first by which the run parts from that; `Memory` is want of memory.
@@ -209,6 +210,7 @@ impl Replay {
     pub fn show(&mut self, count: u32) -> Result<(), Memory>
         requires { count ≤ self.old.last }
         ensures shown { OnOk result (Shows (recording_in self.old) count (loose_state self.new.loose)) }
+        ensures place { OnOk result (self.new.shown ≡ Some count) }
         ensures same { recording_in self.new ≡ recording_in self.old }
     {
         if !self.is_on_the_way(count) {
@@ -288,6 +290,7 @@ impl Replay {
         requires way { IsOnTheWay self.old count }
         requires last { count ≤ self.old.last }
         ensures shown { OnOk result (Shows (recording_in self.old) count (loose_state self.new.loose)) }
+        ensures place { OnOk result (self.new.shown ≡ Some count) }
         ensures same { recording_in self.new ≡ recording_in self.old }
     {
         if self.shows(count) {
@@ -305,5 +308,27 @@ impl Replay {
                 _ => unreachable!(),
             },
         }
+    }
+
+    /// Takes the thread, which shows a count, over the instructions that can be executed with nothing else due,
+    /// up to the next one at an address, and tells the count that it then shows.
+    pub fn run_towards(&mut self, count: u32, address: u64) -> u32
+        requires place { self.old.shown ≡ Some count }
+        requires last { count ≤ self.old.last }
+        ensures above { count ≤ result }
+        ensures within { result ≤ self.old.last }
+        ensures none { NoneFrom (recording_in self.old) count result address }
+        ensures shown { Shows (recording_in self.old) result (loose_state self.new.loose) }
+        ensures same { recording_in self.new ≡ recording_in self.old }
+    {
+        if self.stop.is_some() {
+            return count;
+        }
+        let left = self.last - count;
+        let made = self.loose.advance_several(&AtAddress { address }, left);
+        let shown = count + made.count;
+        self.shown = Some(shown);
+        self.until = self.kept_past(shown);
+        shown
     }
 }

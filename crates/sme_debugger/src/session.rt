@@ -152,8 +152,8 @@ impl Session {
         let last = self.replay.last;
         let mut count = self.place;
         'counts: while count < last {
-            count += 1;
-            self.replay.show(count)?;
+            self.replay.show(count + 1)?;
+            count = self.replay.run_towards(count + 1, address);
             if self.replay.loose.machine().scalars.pc == address {
                 return Ok(Some(count));
             }

@@ -1,6 +1,7 @@
 -- The checkpoint of a thread of a report, from what its parts say.
 use Rattle.std.proofs.Common.{◌≡◌, inl, ℕ, zero, suc, ◌+◌, ◌<◌, ◌≤◌, List, [], ◌∷◌, length, map, refl, ◌∙◌}
 use Rattle.std.proofs.Common.{ap, arith, length-append, Option, Some, None, Result, Ok, Err}
+use Rattle.std.proofs.lemmas.Option.{same_Some}
 use Rattle.std.specs.Prelude.{slice_get, slice_index}
 use Rattle.cmd_words.specs.Command.{asking}
 use Rattle.cmd_words.specs.Options.{default_options}
@@ -98,13 +99,10 @@ checkpoint_accepted program report thread count file bytes (Err r) h = absurd h
 
 -- ---- where a checkpoint that is read stands in its block
 
-same_block : (a b : Block) → ◌≡◌ {A = Option Block} (Some a) (Some b) → a ≡ b
-same_block a b e = cc
-
 pub index_said : (f : Block → ℕ) (blocks : List Block) (k : ℕ) (b : Block) → slice_get blocks k ≡ Some b
     → slice_index (map f blocks) k ≡ f b
 index_said f [] k b e = cc
-index_said f (x ∷ xs) zero b e = ap f (same_block x b e)
+index_said f (x ∷ xs) zero b e = ap f (same_Some x b e)
 index_said f (x ∷ xs) (suc k) b e = index_said f xs k b e
 
 module _ (it : Report) (s : State) (thread used : ℕ) (h : StandsInBlock it s thread used) (block : Block)

@@ -1,8 +1,7 @@
 -- The debugger over a thread of a report, from what its parts say.
-use Rattle.std.proofs.Common.{◌≡◌, ◌⊎◌, inl, inr, ℕ, ◌+◌, ◌<◌, ◌≤◌, ◌++◌, List, [], ◌∷◌, length, take, drop, get_or, refl, sym, ◌∙◌, ap}
+use Rattle.std.proofs.Common.{◌≡◌, ◌⊎◌, inl, inr, ℕ, ◌+◌, ◌<◌, ◌++◌, List, [], ◌∷◌, length, take, drop, get_or, refl, sym, ◌∙◌, ap}
 use Rattle.std.proofs.Common.{subst, append_assoc}
 use Rattle.std.proofs.Common.{append-nil, arith, None, Result, Ok, Err}
-use Rattle.std.proofs.lemmas.Grind.{common_steps}
 use Rattle.std.proofs.lemmas.List.{take-append-drop, take_more}
 use Rattle.sha2.specs.Sha256.{sha256}
 use Rattle.cmd_words.specs.Command.{asking}
@@ -66,10 +65,6 @@ front_at : (xs : List DebugCommand) (i : ℕ) (d : DebugCommand) → i < length 
 front_at xs i d l =
     sym (take-append-drop (i + 1) xs) ∙ ap (λ (t : List DebugCommand). t ++ drop (i + 1) xs) (take_more xs i d l)
     ∙ append_assoc (take i xs) (get_or xs i d ∷ []) (drop (i + 1) xs)
-
--- all commands are before the place past the last one
-pub take_all : (xs : List DebugCommand) (i : ℕ) → length xs ≤ i → take i xs ≡ xs
-take_all xs i l = grind (arith, common_steps)
 
 -- the answers of commands were written, and led to a place
 pub record HaveAnswered (r : Recording) (from : ℕ) (made : List DebugCommand) (place : ℕ) (before now : SinkView) : Type 0 where

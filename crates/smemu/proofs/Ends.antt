@@ -2,6 +2,7 @@
 use Rattle.std.proofs.Common.{◌≡◌, ◌⊎◌, inl, inr, ℕ, List, [], ◌∷◌, ◌++◌, false, true, refl, sym, ◌∙◌, ap, subst, arith, Option, Some, None}
 use Rattle.std.proofs.Common.{Result, Ok, Err}
 use Rattle.std.specs.Prelude.{IfErr, IfOk, IfSome, IsSome, IsErr}
+use Rattle.plain_lemmas.proofs.Options.{none_not_some, IsSome_from}
 use Rattle.sm_types.specs.declared.numbers.Numbers.{Numbers}
 use Rattle.cmd_words.specs.Words as usage
 use Rattle.cmd_words.specs.Words.{Argument, Request, usage_fault, command_of}
@@ -66,10 +67,6 @@ same_takes_some asked one other e h several =
     let same : other ≡ one = cc in
     subst (λ (r : Request). takes_threads r ≡ true) same several
 
--- there is no request where none is asked for
-pub no_some : (o : Option Request) (request : Request) → o ≡ None → o ≡ Some request → ⊥
-no_some o request e h = cc
-
 -- ---- the words
 
 -- what stands for what the words ask for
@@ -96,17 +93,11 @@ asked_ends words files request (Ok a) e h =
 asked_ends words files request (Err refusal.Memory) e h = tt
 asked_ends words files request (Err r) e h = defined_of words files request (refusal_status r) (refusal_text r) e h
 
-some_request : (o : Option Request) (request : Request) → o ≡ Some request → IsSome o
-some_request o request e = rw e refl
-
-some_fault : (o : Option usage.Fault) (fault : usage.Fault) → o ≡ None → o ≡ Some fault → ⊥
-some_fault o fault e h = cc
-
 none_or : (words : List (List ℕ)) (fault : usage.Fault) (o : Option Request) → command_of words ≡ o → usage_fault words ≡ Some fault
     → o ≡ None
 none_or words fault None e h = refl
 none_or words fault (Some request) e h =
-    absurd (some_fault (usage_fault words) fault ((reading words).0 (some_request (command_of words) request e)) h)
+    absurd (none_not_some (usage_fault words) fault ((reading words).0 (IsSome_from (command_of words) request e)) h)
 
 -- words with a fault ask for nothing
 pub no_request : (words : List (List ℕ)) (fault : usage.Fault) → usage_fault words ≡ Some fault → command_of words ≡ None

@@ -1,7 +1,7 @@
 -- A checkpoint that is written of a thread of a report is read back for that report.
-use Rattle.std.proofs.Common.{◌≡◌, ℕ, ◌<◌, ◌≤◌, List, length, refl, sym, ◌∙◌, ap, subst, arith, Option, Some, None}
-use Rattle.std.specs.Option.{option_or}
+use Rattle.std.proofs.Common.{◌≡◌, ℕ, ◌<◌, ◌≤◌, List, length, refl, sym, ◌∙◌, ap, subst, arith, Some, None}
 use Rattle.std.specs.Prelude.{slice_get, slice_index, IsSome}
+use Rattle.plain_lemmas.proofs.Options.{neither_some}
 use Rattle.sm_types.specs.Options.{numbers_of}
 use Rattle.sm_types.specs.declared.config.Config.{Config}
 use Rattle.paged_memory.specs.Image.{Program}
@@ -9,7 +9,6 @@ use Rattle.paged_memory.proofs.Count.{page_of_parts}
 use Rattle.elf_headers.specs.Header.{kind_fault, length_fault, table_fault}
 use Rattle.elf_headers.specs.Loads.{extents_of, headers_fault, loads_of, overlap_fault, pages_fault}
 use Rattle.elf_headers.specs.Segments.{segments_fault}
-use Rattle.elf_headers.specs.declared.fault.LoadFault.{LoadFault}
 use Rattle.elf_headers.proofs.Extents.{loads_are_sound, loads_placed}
 use Rattle.elf_loader.specs.Loading.{load_fault, Loads}
 use Rattle.kernel_contexts.specs.Context.{config_of, journal_of, state_of, thread_of}
@@ -23,24 +22,20 @@ use Rattle.smemu.proofs.Checkpoints.{index_said}
 
 -- ---- the pages of a program that is loaded are where an image may have one
 
-no_first : (check : Option LoadFault) (rest : Option LoadFault) → option_or check rest ≡ None → (check ≡ None) × (rest ≡ None)
-no_first None rest e = (refl, e)
-no_first (Some fault) rest e = cc
-
 module _ (file : List ℕ) (program : Program) (h : Loads file program) where
   headers : headers_fault file ≡ None
   unfolding load_fault
-  headers = (no_first (headers_fault file) _ h.accepted).0
+  headers = (neither_some (headers_fault file) _ h.accepted).0
 
   from_segments : (segments_fault file ≡ None) × (overlap_fault file ≡ None) × (pages_fault file ≡ None)
   unfolding headers_fault
   from_segments =
-      let kind = no_first (length_fault file) _ headers in
-      let table = no_first (kind_fault file) _ kind.1 in
-      let segments = no_first (table_fault file) _ table.1 in
-      let overlap = no_first (segments_fault file) _ segments.1 in
-      let pages = no_first (overlap_fault file) _ overlap.1 in
-      (overlap.0, pages.0, (no_first (pages_fault file) _ pages.1).0)
+      let kind = neither_some (length_fault file) _ headers in
+      let table = neither_some (kind_fault file) _ kind.1 in
+      let segments = neither_some (table_fault file) _ table.1 in
+      let overlap = neither_some (segments_fault file) _ segments.1 in
+      let pages = neither_some (overlap_fault file) _ overlap.1 in
+      (overlap.0, pages.0, (neither_some (pages_fault file) _ pages.1).0)
 
   pub loadable_pages : HasLoadablePages program
   loadable_pages n there =

@@ -8,6 +8,7 @@ use Rattle.cmd_words.specs.Options.{default_options}
 use Rattle.cmd_words.specs.Words.{NameSaid, ThreadSaid}
 use Rattle.cmd_words.specs.declared.verb.Verb.TheVariants.{Replay}
 use Rattle.std.proofs.lemmas.Bool.Decides.{nat_tests}
+use Rattle.std.proofs.lemmas.Bool.{ltb-false}
 use Rattle.sha2.specs.Sha256.{sha256}
 use Rattle.sm_types.specs.Options.{numbers_of, version_of}
 use Rattle.sm_types.specs.declared.config.Config.{Config}
@@ -44,12 +45,9 @@ no_report : (long : Bool) (fault : Fault) (read : Result Report Fault) (said : R
 no_report true fault read said e = cc
 no_report false fault read said e = refl
 
-short_enough : (most n : ℕ) → nat_lt most n ≡ false → n ≤ most
-short_enough most n e = grind (arith, nat_tests)
-
 pub report_size : (bytes : List ℕ) (said : Report) → report_in bytes ≡ Ok said → length bytes ≤ 1073741824
 unfolding report_in
-report_size bytes said e = short_enough 1073741824 (length bytes) (no_report (nat_lt 1073741824 (length bytes)) _ _ said e)
+report_size bytes said e = ltb-false 1073741824 (length bytes) (no_report (nat_lt 1073741824 (length bytes)) _ _ said e)
 
 -- and has the thread, where it is one of the program
 below : (t n : ℕ) (same lower : Bool) (f g : Fault) → nat_lt t n ≡ lower → cond same (cond lower None (Some f)) (Some g) ≡ None → t < n

@@ -1,7 +1,9 @@
 -- The files of a request: which are reached, and which status is due.
 use Rattle.std.proofs.Common.{◌≡◌, ℕ, zero, suc, cond, List, [], ◌∷◌, ◌++◌, length, Option, Some, None, refl, sym, ◌∙◌, ap}
 use Rattle.std.proofs.Common.{append_assoc, append-nil, subst}
+use Rattle.std.proofs.lemmas.Option.{same_Some}
 use Rattle.std.specs.Prelude.{slice_get, is_none, IfSome}
+use Rattle.plain_lemmas.proofs.Lists.{slice_get-mid}
 use Rattle.cmd_words.specs.Words.{Request}
 use Rattle.edge_io.specs.Files.{Told}
 use Rattle.command_lines.specs.declared.status.Status.{Status}
@@ -107,10 +109,6 @@ none_after_rejected (Some files) request before named rest file rejection is h =
     ap (λ file. after_file (judge_of request before named.kind) file (λ f. reached_in request (before ++ f ∷ []) files rest)) is
     ∙ ap (λ r. cond (is_none r) (reached_in request (before ++ file ∷ []) files rest) []) h
 
-get_there : (names rest : List Named) (named : Named) → slice_get (names ++ named ∷ rest) (length names) ≡ Some named
-get_there [] rest named = refl
-get_there (first ∷ names) rest named = get_there names rest named
-
 -- it is reached
 pub is_reached : (told : Told) (request : Request) (names rest : List Named) (files : List (List ℕ)) (named : Named)
     → AreAccepted told request [] names files → IsAmong (reached_from told request [] (names ++ named ∷ rest)) named
@@ -118,13 +116,10 @@ is_reached told request names rest files named h = (
   length names,
   ap (λ ns. slice_get ns (length names)) (reached_after told request [] names (named ∷ rest) files h
       ∙ ap (λ (ns : List Named). names ++ ns) (reached_first told request files named rest))
-      ∙ get_there names (rest_of told request files named rest) named,
+      ∙ slice_get-mid names (rest_of told request files named rest) named,
 )
 
 -- ---- the status that is due
-
-same_some : (a b : Named) → ◌≡◌ {A = Option Named} (Some a) (Some b) → a ≡ b
-same_some a b e = cc
 
 -- a file after the first is reached where the first is accepted, and then the status is that of the others
 module _ (s : Status) (rest : List ℕ → Status) (names : List ℕ → List Named) (place : ℕ) (named : Named)
@@ -147,7 +142,7 @@ pub due_reached : (request : Request) (before : List (List ℕ)) (files : List �
 due_reached request before files [] place named s e h = cc
 due_reached request before files (first ∷ rest) zero named s e h =
     subst (λ (n : Named). due_of_file (judge_of request before first.kind) (files n.name)
-    (λ file. due_of_files request (before ++ file ∷ []) files rest) ≡ s) (sym (same_some first named e))
+    (λ file. due_of_files request (before ++ file ∷ []) files rest) ≡ s) (sym (same_Some first named e))
     (h (judge_of request before first.kind) (λ file. due_of_files request (before ++ file ∷ []) files rest))
 due_reached request before files (first ∷ rest) (suc place) named s e h =
     past_file s (λ file. due_of_files request (before ++ file ∷ []) files rest)

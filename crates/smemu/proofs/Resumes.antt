@@ -1,11 +1,12 @@
 -- The rest of the run of a thread of a report, from a checkpoint, from what its parts say.
 use Rattle.std.proofs.Common.{◌≡◌, inl, inr, ℕ, ◌-◌, ◌<◌, Bool, true, false, cond, List, [], ◌∷◌, drop, get_or, length, take, refl, sym}
-use Rattle.std.proofs.Common.{◌∙◌, ap, subst, arith, Option, Some, None}
+use Rattle.std.proofs.Common.{◌∙◌, ap, subst, arith, Some, None}
 use Rattle.std.proofs.Common.{Result, Ok, Err}
 use Rattle.std.specs.Prelude.{nat_lt, IsErrAnd}
 use Rattle.std.specs.Str.{bytes_eq}
 use Rattle.std.proofs.lemmas.Bool.Decides.{nat_tests}
 use Rattle.std.proofs.lemmas.Grind.{common_steps}
+use Rattle.std.proofs.lemmas.Option.{same_Some}
 use Rattle.sha2.specs.Sha256.{sha256}
 use Rattle.cmd_words.specs.Command.{asking}
 use Rattle.cmd_words.specs.Options.{default_options}
@@ -44,15 +45,12 @@ use Rattle.smemu.proofs.Debugs.{block_there}
 
 -- ---- a report of another program
 
-same_fault : (f g : Fault) → ◌≡◌ {A = Option Fault} (Some f) (Some g) → f ≡ g
-same_fault f g e = cc
-
 not_image : (same lower : Bool) (image thread fault : Fault) → lower ≡ true
     → cond same (cond lower None (Some thread)) (Some image) ≡ Some fault
     → (same ≡ false) × (image ≡ fault)
 not_image true true image thread fault is e = cc
 not_image true false image thread fault is e = cc
-not_image false lower image thread fault is e = (refl, same_fault image fault e)
+not_image false lower image thread fault is e = (refl, same_Some image fault e)
 
 pub resume_unmatched : (file bytes checkpoint : List ℕ) (thread : ℕ) (program : Program) (it : Report) (r : Refusal) → Loads file program
     → report_in bytes ≡ Ok it → thread < it.options.threads → IsUnmatched file thread it r → EndsResume file bytes checkpoint (Err r)

@@ -1,7 +1,8 @@
 -- The ends of the threads of a run.
 use Rattle.std.proofs.Common.{◌≡◌, ℕ, zero, suc, List, [], ◌∷◌, map, refl, ap, subst, ◌∙◌}
 use Rattle.std.proofs.lemmas.List.{length-map}
-use Rattle.std.specs.Prelude.{Option, Some, None, slice_get}
+use Rattle.std.proofs.lemmas.Option.{none-some, same_Some}
+use Rattle.std.specs.Prelude.{Some, slice_get}
 use Rattle.sm_types.specs.declared.config.Config.{Config}
 use Rattle.sm_types.specs.declared.shared_op.Event.{Event}
 use Rattle.sm_types.specs.declared.shared_words.Words.{Words}
@@ -19,18 +20,12 @@ end_here : (program : Program) (config : Config) (k : ℕ) (context : Context) �
     → IsEndOf program config k (end_of context)
 end_here program config k context h = record { number = h.number; stop = h.stop; stopped = h.stopped; run = h.run }
 
-same_some : (a b : ThreadEnd) → ◌≡◌ {A = Option ThreadEnd} (Some a) (Some b) → a ≡ b
-same_some a b e = cc
-
-none_here : (a : ThreadEnd) → ◌≡◌ {A = Option ThreadEnd} None (Some a) → ⊥
-none_here a e = cc
-
 -- each end is that of the context of its number
 pub ends_at : (is_end : ℕ → ThreadEnd → Type 0) (contexts : List Context)
     → ((k : ℕ) (context : Context) → slice_get contexts k ≡ Some context → is_end k (end_of context))
     → (k : ℕ) (end : ThreadEnd) → slice_get (ends_of contexts) k ≡ Some end → is_end k end
-ends_at is_end [] h k end e = absurd (none_here end e)
-ends_at is_end (context ∷ contexts) h zero end e = subst (is_end 0) (same_some (end_of context) end e) (h 0 context refl)
+ends_at is_end [] h k end e = absurd (none-some end e)
+ends_at is_end (context ∷ contexts) h zero end e = subst (is_end 0) (same_Some (end_of context) end e) (h 0 context refl)
 ends_at is_end (context ∷ contexts) h (suc k) end e =
     ends_at (λ n. is_end (suc n)) contexts (λ n c at. h (suc n) c at) k end e
 

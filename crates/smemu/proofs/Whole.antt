@@ -1,8 +1,10 @@
 -- What is fetched of a file, with a limit of one byte more than it may have, stands for the whole file.
-use Rattle.std.proofs.Common.{◌≡◌, ℕ, ◌<◌, ◌≤◌, ◌⊎◌, inl, inr, List, take, length, true, Option, Some, None, Result, Ok, refl, sym, ◌∙◌}
+use Rattle.std.proofs.Common.{◌≡◌, ℕ, ◌<◌, ◌≤◌, inl, inr, List, take, length, true, Option, Some, None, Result, Ok, refl, sym, ◌∙◌}
 use Rattle.std.proofs.Common.{ap, arith}
 use Rattle.std.proofs.lemmas.Bool.Decides.{nat_tests}
-use Rattle.std.proofs.lemmas.Grind.{common_steps}
+use Rattle.std.proofs.lemmas.Option.{same_Some}
+use Rattle.std.proofs.lemmas.List.{length-take-le, take_all}
+use Rattle.std.proofs.lemmas.Bool.{cases_lt}
 use Rattle.std.specs.Prelude.{IfSome, option_map, nat_lt}
 use Rattle.asm_core.specs.Faults.{asm_fault}
 use Rattle.ckpt_fields.specs.Rows as ckpt
@@ -31,25 +33,13 @@ use Rattle.smemu.specs.Rejections.{checkpoint_judge, field_told, vectors_judge}
 use Rattle.smemu.specs.declared.rejection.Rejection.{Rejection}
 use Rattle.smemu.specs.declared.rejection.Rejection.TheVariants as rejection
 
-low_or : (a b : ℕ) → (a < b) ⊎ (b ≤ a)
-low_or a b = grind arith
-
-take_short : (n : ℕ) (xs : List ℕ) → length xs ≤ n → take n xs ≡ xs
-take_short n xs h = grind (arith, common_steps)
-
-take_long : (n : ℕ) (xs : List ℕ) → n ≤ length xs → length (take n xs) ≡ n
-take_long n xs h = grind (arith, common_steps)
-
 -- what was fetched is the whole file, where it is short enough
 whole_file : (n : ℕ) (file fetched : List ℕ) → take n file ≡ fetched → length fetched < n → file ≡ fetched
 whole_file n file fetched e h =
-    elim (low_or (length file) n) [
-      | inl short ↦ sym (take_short n file (omega arith)) ∙ e
-      | inr long ↦ absurd (let l : length (take n file) ≡ n = take_long n file long in let same = ap length e in omega arith)
+    elim (cases_lt (length file) n) [
+      | inl short ↦ sym (take_all n file (omega arith)) ∙ e
+      | inr long ↦ absurd (let l : length (take n file) ≡ n = length-take-le n file long in let same = ap length e in omega arith)
     ]
-
-some_is : (a b : List ℕ) → ◌≡◌ {A = Option (List ℕ)} (Some a) (Some b) → a ≡ b
-some_is a b e = cc
 
 -- the file of the name has this fault
 pub record IsFaulty {F : Type 0} (fault_of : List ℕ → Option F) (told : Told) (name : List ℕ) (fault : F) : Type 0 where
@@ -71,7 +61,7 @@ module _ {F : Type 0} (fault_of : List ℕ → Option F) (too_long : F)
   -- a file without a fault is short enough
   pub sound_short : (file : List ℕ) → fault_of file ≡ None → length file ≤ largest
   sound_short file h =
-      elim (low_or largest (length file)) [
+      elim (cases_lt largest (length file)) [
         | inl long ↦ absurd (faulty_or_not (fault_of file) too_long h (long_fault file long))
         | inr short ↦ short
       ]
@@ -79,10 +69,10 @@ module _ {F : Type 0} (fault_of : List ℕ → Option F) (too_long : F)
   faulty_whole : (n : ℕ) (file fetched : List ℕ) (fault : F) → largest < n → take n file ≡ fetched → fault_of fetched ≡ Some fault
       → fault_of file ≡ Some fault
   faulty_whole n file fetched fault l e h =
-      elim (low_or (length file) n) [
-        | inl short ↦ ap fault_of (sym (take_short n file (omega arith)) ∙ e) ∙ h
+      elim (cases_lt (length file) n) [
+        | inl short ↦ ap fault_of (sym (take_all n file (omega arith)) ∙ e) ∙ h
         | inr long ↦
-            let size : length fetched ≡ n = sym (ap length e) ∙ take_long n file long in
+            let size : length fetched ≡ n = sym (ap length e) ∙ length-take-le n file long in
             let is_long : too_long ≡ fault = same_fault too_long fault (sym (long_fault fetched (omega arith)) ∙ h) in
             long_fault file (omega arith) ∙ ap Some is_long
       ]
@@ -94,7 +84,7 @@ module _ {F : Type 0} (fault_of : List ℕ → Option F) (too_long : F)
   sound_file (Some files) n name fetched l e h =
       elim (files name) as (λ o. option_map (take n) o ≡ Some fetched → o ≡ Some fetched) [
         | None ↦ λ x. cc
-        | Some file ↦ λ x. ap Some (whole_file n file fetched (some_is (take n file) fetched x)
+        | Some file ↦ λ x. ap Some (whole_file n file fetched (same_Some (take n file) fetched x)
             (let s = sound_short fetched h in omega arith))
       ] e
 
@@ -109,7 +99,7 @@ module _ {F : Type 0} (fault_of : List ℕ → Option F) (too_long : F)
         | Some file ↦ λ is x. record {
           file = file;
           is_file = is;
-          faulty = faulty_whole n file fetched fault l (some_is (take n file) fetched x) h;
+          faulty = faulty_whole n file fetched fault l (same_Some (take n file) fetched x) h;
         }
       ] refl e
 

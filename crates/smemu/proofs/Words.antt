@@ -1,11 +1,9 @@
 -- What words ask for.
 use Rattle.std.proofs.Common.{◌≡◌, ℕ, Bool, true, false, cond, List, Option, Some, None}
+use Rattle.std.proofs.lemmas.Option.{same_Some}
 use Rattle.std.specs.Prelude.{slice_get, is_none, option_and_then, option_map}
 use Rattle.cmd_words.specs.Words.{Request, verb_of, request_for, usage_fault, command_of}
 use Rattle.cmd_words.specs.declared.verb.Verb.{Verb}
-
-same_request : (a b : Request) → ◌≡◌ {A = Option Request} (Some a) (Some b) → a ≡ b
-same_request a b e = cc
 
 -- what a request is
 abbrev pub IsAskedFor : List (List ℕ) → Request → Type 0
@@ -14,7 +12,7 @@ IsAskedFor words request = (verb : Verb) × (request_for words verb ≡ request)
 asked_by : (words : List (List ℕ)) (verb : Option Verb) (request : Request) → option_map (request_for words) verb ≡ Some request
     → IsAskedFor words request
 asked_by words None request e = cc
-asked_by words (Some verb) request e = (verb, same_request (request_for words verb) request e)
+asked_by words (Some verb) request e = (verb, same_Some (request_for words verb) request e)
 
 asked_without : (words : List (List ℕ)) (sound : Bool) (verb : Option Verb) (request : Request)
     → cond sound (option_map (request_for words) verb) None ≡ Some request → IsAskedFor words request

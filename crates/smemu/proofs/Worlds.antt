@@ -1,9 +1,9 @@
 -- The threads of a world, as a report has them.
-use Rattle.std.proofs.Common.{◌≡◌, ℕ, zero, suc, ◌<◌, List, [], ◌∷◌, length, map, refl, sym, ◌∙◌, ap, subst, Some}
+use Rattle.std.proofs.Common.{◌≡◌, ℕ, ◌<◌, List, [], ◌∷◌, length, refl, sym, ◌∙◌, ap, subst, Some}
 use Rattle.std.specs.Prelude.{slice_get, All}
 use Rattle.std.proofs.lemmas.List.{length-map}
 use Rattle.std.proofs.lemmas.List.Elements.{All-contains, All-from_recursion}
-use Rattle.std.proofs.lemmas.Option.{same_Some, none-some}
+use Rattle.plain_lemmas.proofs.Lists.{slice_get_from_map}
 use Rattle.sm_types.specs.declared.config.Config.{Config}
 use Rattle.sm_types.specs.declared.shared_op.Event.{Event}
 use Rattle.sm_types.specs.declared.shared_words.Words.{Words}
@@ -56,12 +56,6 @@ after-config w (e ∷ es) = after-config (happens w e).world es ∙ happens-conf
 pub plan_kept : (program : Program) (config : Config) (es : List WorldEvent) → IsKept program (world_after (start_world program config) es)
 plan_kept program config es = events_kept program (start_world program config) es (start_kept program config)
 
-get_back : {A B : Type 0} (f : A → B) (xs : List A) (i : ℕ) (y : B) → slice_get (map f xs) i ≡ Some y
-    → (x : A) × (slice_get xs i ≡ Some x) × (f x ≡ y)
-get_back f [] i y get = absurd (none-some y get)
-get_back f (x ∷ xs) zero y get = (x, refl, same_Some (f x) y get)
-get_back f (x ∷ xs) (suc i) y get = get_back f xs i y get
-
 -- where each thread stands so, it is where it comes to alone over its journal, and the journals are one history
 module _ (program : Program) (config : Config) (w : World) (h : IsKept program w) (same : w.config ≡ config) (ends : List ThreadEnd)
     (words : Words) (are : AreEndsIn w ends words) where
@@ -86,7 +80,7 @@ module _ (program : Program) (config : Config) (w : World) (h : IsKept program w
 
   parts : (t : ℕ) (journal : List Event) → slice_get (journals_of ends) t ≡ Some journal → part_of t w.history ≡ journal
   parts t journal get =
-      let found = get_back (λ (end : ThreadEnd). end.journal) ends t journal get in
+      let found = slice_get_from_map (λ (end : ThreadEnd). end.journal) ends t journal get in
       let e = are.each t found.0 found.1 in
       let part = (stood t found.0 e).part in
       ap (λ (n : ℕ). part_of n w.history) (sym e.number) ∙ part ∙ sym (ap (λ (x : ThreadEnd). x.journal) e.stands) ∙ found.2

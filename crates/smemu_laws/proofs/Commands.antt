@@ -4,6 +4,7 @@ use Rattle.std.proofs.Common.{refl, ◌∙◌, ap, subst, arith}
 use Rattle.std.specs.Prelude.{nat_lt, option_map}
 use Rattle.std.specs.Str.{bytes_eq}
 use Rattle.std.proofs.lemmas.Slice.Eq.{bytes_eq-Decides}
+use Rattle.plain_lemmas.proofs.Options.{one_Some}
 use Rattle.sha2.specs.Sha256.{sha256}
 use Rattle.sha2.proofs.Facts256.{length-sha256}
 use Rattle.sm_types.specs.declared.numbers.Numbers.{Numbers}
@@ -66,9 +67,6 @@ module _ (files : List ℕ → Option (List ℕ)) (program report : List ℕ) (t
     ends = e;
   }
   replay_opened (file ∷ bytes ∷ more ∷ fs) h e = absurd h.2.2
-
-same_file : (o : Option (List ℕ)) (a b : List ℕ) → o ≡ Some a → o ≡ Some b → a ≡ b
-same_file o a b e h = cc
 
 -- ---- the report reads what was written
 
@@ -133,8 +131,8 @@ module _ (files : List ℕ → Option (List ℕ)) (program report name : List �
     resumed_where replay =
         let c = of_checkpoint in
         let r = replay_opened files program report thread count text replay.files replay.accepted replay.ends in
-        let file = same_file (files program) r.file c.file r.are.program_is c.are.program_is in
-        let bytes = same_file (files report) r.bytes c.bytes r.are.report_is c.are.report_is in
+        let file = one_Some (files program) r.file c.file r.are.program_is c.are.program_is in
+        let bytes = one_Some (files report) r.bytes c.bytes r.are.report_is c.are.report_is in
         resumed_from c
         (subst (λ (b : List ℕ). IsReplayOf c.file b thread text) bytes
         (subst (λ (f : List ℕ). IsReplayOf f r.bytes thread text) file r.ends))

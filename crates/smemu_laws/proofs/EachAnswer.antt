@@ -1,9 +1,9 @@
 -- Each command of a script has an answer, wherever in a run that ends the one before it led.
 use Rattle.std.proofs.Common.{◌≡◌, ◌≢◌, ◌⊎◌, inl, inr, ℕ, zero, suc, ◌+◌, ◌-◌, ◌<◌, ◌≤◌, ◌++◌, List, [], ◌∷◌, min, refl, ap, sym, ◌∙◌}
 use Rattle.std.proofs.Common.{subst, arith}
+use Rattle.plain_lemmas.proofs.Numbers.{cases_lt_eq_gt}
 use Rattle.kernel_contexts.specs.State.{State}
 use Rattle.lone_runner.specs.Parting.{EndsAt, state_at}
-use Rattle.lone_runner.proofs.Partings.{compared}
 use Rattle.lone_runner.proofs.Shown.{below_all}
 use Rattle.script_reader.specs.declared.command.DebugCommand.{DebugCommand}
 use Rattle.script_reader.specs.declared.command.DebugCommand.TheVariants.{Step, Back, Goto, Break}
@@ -19,14 +19,14 @@ record IsFirst (f : ℕ → ℕ) (aim first : ℕ) : Type 0 where
   before : (earlier : ℕ) → earlier < first → f earlier ≢ aim
 
 equal_or : (a b : ℕ) → (a ≡ b) ⊎ (a ≢ b)
-equal_or a b = elim (compared a b) [
+equal_or a b = elim (cases_lt_eq_gt a b) [
   | inl less ↦ inr (λ same. absurd (omega (arith, less, same)))
   | inr (inl same) ↦ inl same
   | inr (inr more) ↦ inr (λ same. absurd (omega (arith, more, same)))
 ]
 
 none_below : (f : ℕ → ℕ) (aim n : ℕ) → ((m : ℕ) → m < n → f m ≢ aim) → f n ≢ aim → (m : ℕ) → m < suc n → f m ≢ aim
-none_below f aim n before here m l = elim (compared m n) [
+none_below f aim n before here m l = elim (cases_lt_eq_gt m n) [
   | inl less ↦ before m less
   | inr (inl same) ↦ λ there. here (ap f (sym same) ∙ there)
   | inr (inr more) ↦ absurd (omega (arith, l, more))

@@ -1,11 +1,13 @@
 -- What is left of a run from a checkpoint that a report reads either parts from the block, or ends as it says.
-use Rattle.std.proofs.Common.{◌≡◌, ℕ, ◌+◌, ◌/◌, ◌<◌, ◌++◌, Bool, true, false, cond, List, [], ◌∷◌, length, map}
+use Rattle.std.proofs.Common.{◌≡◌, ℕ, ◌+◌, ◌/◌, ◌<◌, ◌++◌, true, false, cond, List, [], ◌∷◌, length, map}
 use Rattle.std.proofs.Common.{None, Some, refl, ap, sym, ◌∙◌, arith}
-use Rattle.std.specs.Prelude.{◌==◌, nat_lt, slice_index}
+use Rattle.std.specs.Prelude.{nat_lt, slice_index}
 use Rattle.std.specs.FinMap.{entries, find, get-entries}
 use Rattle.std.specs.Ordering.{eq_by_cmp, nat_cmp}
 use Rattle.std.proofs.lemmas.Bool.Decides.{nat_tests}
 use Rattle.std.proofs.lemmas.List.{length-map}
+use Rattle.std.proofs.lemmas.Bool.{both_ways, false_from_ne_true, eqb-true}
+use Rattle.plain_lemmas.proofs.Tests.{and_second, eq_by_cmp-true}
 use Rattle.byteorder.specs.Endian.{little_bytes, little_number}
 use Rattle.sm_types.specs.declared.numbers.Numbers.{Numbers}
 use Rattle.sve_vectors.specs.Predicates.{predicate_bytes}
@@ -26,7 +28,6 @@ use Rattle.ckpt_fields.specs.Values.{first_values, option_values, system_values}
 use Rattle.ckpt_file.specs.Checkpoint.{array_values, checkpoint_values, register_values, state_values, vector_values, ReadsCheckpoint}
 use Rattle.ckpt_file.proofs.Filled.{array_by, array_many, flags_low, handlers_left, modes_low, output_left, predicates_many, vectors_left}
 use Rattle.ckpt_file.proofs.Filling.{each_of_all, fields_good}
-use Rattle.ckpt_file.proofs.Modes.{and_second}
 use Rattle.ckpt_file.proofs.Parts.{first_good, handlers_good, system_good, thread_good, vectors_good, AreHandlersPast, IsNarrowEntry}
 use Rattle.ckpt_file.proofs.Parts.{IsProgress}
 use Rattle.smemu.specs.Resume.{rest_of, IsRestIn, RestEnds}
@@ -39,26 +40,12 @@ above last n e = grind (arith, nat_tests)
 is_one : (last n : ℕ) → is_signal_past last n ≡ true → is_signal n ≡ true
 is_one last n e = grind (arith, nat_tests)
 
-same_key : (k n : ℕ) → eq_by_cmp nat_cmp k n ≡ true → k ≡ n
-same_key k n e = grind (arith, nat_tests)
-
-same_number : (m n : ℕ) → (m == n) ≡ true → m ≡ n
-same_number m n e = grind (arith, nat_tests)
-
-false_or : (b : Bool) → (b ≡ true → ⊥) → b ≡ false
-false_or true never = absurd (never refl)
-false_or false never = refl
-
-not_both : (b : Bool) → b ≡ true → b ≡ false → ⊥
-not_both true e h = cc
-not_both false e h = cc
-
 not_found : (last k : ℕ) (es : List (ℕ × ℕ)) → AreHandlersPast last es → is_signal k ≡ false → find nat_cmp k es ≡ None
 not_found last k [] h none = refl
 not_found last k (e ∷ es) h none =
     let other : eq_by_cmp nat_cmp k e.0 ≡ false =
-    false_or (eq_by_cmp nat_cmp k e.0) (λ same.
-    not_both (is_signal k) (ap is_signal (same_key k e.0 same) ∙ is_one last e.0 h.0.0) none) in
+    false_from_ne_true (eq_by_cmp nat_cmp k e.0) (λ same.
+    both_ways (is_signal k) none (ap is_signal (eq_by_cmp-true k e.0 same) ∙ is_one last e.0 h.0.0)) in
     ap (λ b. cond b (Some e.1) (find nat_cmp k es)) other ∙ not_found e.0 k es h.1 none
 
 -- ---- the fields of a state
@@ -127,7 +114,7 @@ module _ (bytes : List ℕ) (report : Report) (s : State) (thread events : ℕ) 
   -- the budget is one of 32 bits, as its field says
   pub budget_kept : little_number 4 (little_bytes 4 report.options.budget) ≡ report.options.budget
   unfolding checkpoint_table first_rows options_rows checkpoint_values first_values option_values number said
-  budget_kept = same_number _ _ h.fields.2.2.2.2.2.1
+  budget_kept = eqb-true _ _ h.fields.2.2.2.2.2.1
 
 -- ---- the rest of the run
 

@@ -1,9 +1,10 @@
 -- Two texts that answer the same request for the same files are equal.
-use Rattle.std.proofs.Common.{◌≡◌, ℕ, ◌+◌, true, List, [], ◌∷◌, length, cond, Option, Some, None, Result, Ok, refl, sym, ◌∙◌, ap}
+use Rattle.std.proofs.Common.{◌≡◌, ℕ, ◌+◌, true, List, [], ◌∷◌, length, cond, Some, None, refl, sym, ◌∙◌, ap}
 use Rattle.std.proofs.Common.{subst}
 use Rattle.std.specs.Prelude.{◌==◌, slice_get, slice_index}
 use Rattle.std.specs.Str.{bytes_eq}
 use Rattle.std.proofs.lemmas.Slice.Eq.{bytes_eq-Decides}
+use Rattle.plain_lemmas.proofs.Options.{one_Ok, one_Some}
 use Rattle.sha2.specs.Sha256.{sha256}
 use Rattle.sm_types.specs.declared.config.Config.{Config}
 use Rattle.sm_types.specs.declared.object.Object.{Object}
@@ -17,16 +18,12 @@ use Rattle.elf_loader.specs.Objects.{IsObjectImage, object_extents, text_extent,
 use Rattle.elf_loader.proofs.Images.{one_memory, one_program}
 use Rattle.plan_reader.specs.Plan.{plan_in, event_lines}
 use Rattle.plan_reader.specs.Plan as plan
-use Rattle.sm_types.specs.declared.world_event.WorldEvent.{WorldEvent}
 use Rattle.paged_memory.specs.Image.{Extent, IsMemoryOf, Program}
 use Rattle.report_text.specs.Report.{ThreadEnd, report_text}
-use Rattle.report_reader.specs.Block.{Block}
-use Rattle.line_reader.specs.Difference.{Difference, first_difference}
-use Rattle.report_reader.specs.Reading.{Fault}
+use Rattle.line_reader.specs.Difference.{first_difference}
 use Rattle.report_reader.specs.Report.{Report, report_in}
 use Rattle.smemu.specs.Replay.{IsBlockIn, IsReplayOf, text_in}
 use Rattle.sim_text.specs.Sim.{sim_text}
-use Rattle.vector_runner.specs.Field.{Vector}
 use Rattle.vector_runner.specs.Grammar as grammar
 use Rattle.vector_runner.specs.Grammar.{vectors_in}
 use Rattle.vector_runner.specs.Run.{answers_text}
@@ -52,14 +49,11 @@ one_report file config text other one h g =
     h.is_text ∙ ap (λ (es : List ThreadEnd). report_text config (sha256 file) es h.words) same.same_ends
     ∙ ap (report_text config (sha256 file) g.ends) same.same_words ∙ sym g.is_text
 
-same_events : (read : Result (List WorldEvent) plan.Fault) (a b : List WorldEvent) → read ≡ Ok a → read ≡ Ok b → a ≡ b
-same_events read a b e h = cc
-
 one_simulation_of : (file plan : List ℕ) (config : Config) (text other : List ℕ) → IsSimulationOf file plan config text
     → IsSimulationOf file plan config other → text ≡ other
 one_simulation_of file plan config text other h g =
     let program = one_program file h.program g.program h.loads g.loads in
-    let events = same_events (plan_in plan) h.events g.events h.planned g.planned in
+    let events = one_Ok (plan_in plan) h.events g.events h.planned g.planned in
     let start = ap (λ (p : Program). start_world p config) program in
     let last = h.happened ∙ (λ i. world_after (start i) (events i)) ∙ sym g.happened in
     let here = subst (λ (w : World). AreEndsIn w h.ends h.words) last h.are in
@@ -113,12 +107,6 @@ one_bench number options text other one h g =
 
 -- ---- the replays of a thread
 
-pub same_said : (read : Result Report Fault) (a b : Report) → read ≡ Ok a → read ≡ Ok b → a ≡ b
-same_said read a b e h = cc
-
-same_block : (o : Option Block) (a b : Block) → o ≡ Some a → o ≡ Some b → a ≡ b
-same_block o a b e h = cc
-
 -- a thread has one block in a report, with one program and one set of options
 pub record IsOneBlock {file report : List ℕ} {thread : ℕ} (a b : IsBlockIn file report thread) : Type 0 where
   pub program : a.program ≡ b.program
@@ -127,13 +115,13 @@ pub record IsOneBlock {file report : List ℕ} {thread : ℕ} (a b : IsBlockIn f
 
 pub one_block : (file report : List ℕ) (thread : ℕ) (a b : IsBlockIn file report thread) → IsOneBlock a b
 one_block file report thread a b =
-    let said = same_said (report_in report) a.said b.said a.reads b.reads in
+    let said = one_Ok (report_in report) a.said b.said a.reads b.reads in
     let options = a.given ∙ ap (λ (r : Report). r.options) said ∙ sym b.given in
     record {
       program = one_program file a.program b.program a.loads b.loads;
       config = same_numbers a.config b.config options;
       block =
-          same_block (slice_get a.said.blocks thread) a.block b.block a.stands (ap (λ (r : Report). slice_get r.blocks thread) said
+          one_Some (slice_get a.said.blocks thread) a.block b.block a.stands (ap (λ (r : Report). slice_get r.blocks thread) said
           ∙ b.stands);
     }
 
@@ -149,9 +137,6 @@ no_line n [] = refl
 no_line n (a ∷ rest) =
     let same : bytes_eq a a ≡ true = (bytes_eq-Decides a a).1 refl in
     ap (λ t. cond t (first_difference (n + 1) rest rest) (Some (record { line = n; first = a; second = a }))) same ∙ no_line (n + 1) rest
-
-pub none_some : (o : Option Difference) (it : Difference) → o ≡ None → o ≡ Some it → ⊥
-none_some o it e h = cc
 
 -- ---- runs and listings
 
@@ -173,12 +158,9 @@ pub one_listing : (file text other : List ℕ) → IsListingOf file text → IsL
 one_listing file text other h g =
     h.is_text ∙ ap listing_text (h.loads.code_is ∙ sym g.loads.code_is) ∙ sym g.is_text
 
-same_vectors : (read : Result (List Vector) grammar.Fault) (a b : List Vector) → read ≡ Ok a → read ≡ Ok b → a ≡ b
-same_vectors read a b e h = cc
-
 pub one_answers : (file : List ℕ) (options : Numbers) (text other : List ℕ) → IsAnswersOf file options text
     → IsAnswersOf file options other → text ≡ other
 one_answers file options text other h g =
     let vl = length_said options.vl in
     let svl = length_said options.svl in
-    h.is_text ∙ ap (answers_text vl svl) (same_vectors (vectors_in vl svl file) h.vectors g.vectors h.read g.read) ∙ sym g.is_text
+    h.is_text ∙ ap (answers_text vl svl) (one_Ok (vectors_in vl svl file) h.vectors g.vectors h.read g.read) ∙ sym g.is_text

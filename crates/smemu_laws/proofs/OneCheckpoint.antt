@@ -1,5 +1,7 @@
 -- What is written of the checkpoint of a thread of a report, at a count, is one.
 use Rattle.std.proofs.Common.{◌≡◌, ◌≢◌, inl, inr, ℕ, ◌<◌, ◌≤◌, List, refl, sym, ◌∙◌, ap, subst, arith, Some}
+use Rattle.plain_lemmas.proofs.Options.{one_Ok}
+use Rattle.plain_lemmas.proofs.Numbers.{cases_lt_eq_gt}
 use Rattle.sm_types.specs.declared.config.Config.{Config}
 use Rattle.sm_types.specs.declared.shared_op.Event.{Event}
 use Rattle.sm_types.specs.declared.stop.Stop.{Stop}
@@ -9,7 +11,7 @@ use Rattle.kernel_contexts.specs.Run.{Reached, At, Ended, Strays, reach, turned}
 use Rattle.lone_runner.specs.Parting.{IsPartingBefore, parting_at, state_at}
 use Rattle.lone_runner.specs.declared.fault.AloneFault.{AloneFault}
 use Rattle.lone_runner.specs.declared.fault.AloneFault.TheVariants.{EndsEarly}
-use Rattle.lone_runner.proofs.Partings.{compared, count_later, one_fault, passed, stays_so}
+use Rattle.lone_runner.proofs.Partings.{count_later, one_fault, passed, stays_so}
 use Rattle.ckpt_file.specs.Checkpoint.{checkpoint}
 use Rattle.report_reader.specs.Block.{Block}
 use Rattle.report_reader.specs.Report.{report_in}
@@ -18,7 +20,7 @@ use Rattle.command_lines.specs.declared.checkpoint_line.CheckpointFault.TheVaria
 use Rattle.smemu.specs.Checkpoints.{FallsShort, IsCheckpointOf, IsLate, IsShort, StandsAt, StopsAt}
 use Rattle.report_compare.specs.DifferLines.{parting_line}
 use Rattle.smemu.specs.Replay.{IsBlockIn}
-use Rattle.smemu_laws.proofs.OneAnswer.{IsOneBlock, one_block, same_said}
+use Rattle.smemu_laws.proofs.OneAnswer.{IsOneBlock, one_block}
 
 same_stand : (s t : State) (used made : ℕ) (left rest : List Event) → ◌≡◌ {A = Reached} (At s used left) (At t made rest) → s ≡ t
 same_stand s t used made left rest e = cc
@@ -46,7 +48,7 @@ module _ (program : Program) (config : Config) (thread : ℕ) (journal : List Ev
   IsFirst n = (counts_at n ≡ count) × ((m : ℕ) → m < n → counts_at m ≢ count)
 
   one_turn : (m n : ℕ) → IsFirst m → IsFirst n → m ≡ n
-  one_turn m n h k = elim (compared m n) [
+  one_turn m n h k = elim (cases_lt_eq_gt m n) [
     | inl less ↦ absurd (k.1 m less h.0)
     | inr (inl same) ↦ same
     | inr (inr more) ↦ absurd (h.1 n more k.0)
@@ -99,7 +101,7 @@ module _ (program : Program) (config : Config) (thread : ℕ) (journal : List Ev
       other (sym (later n m (Strays s used left) l at refl) ∙ shown)
 
   not_counted : (n : ℕ) (fault : AloneFault) → counts_at n ≡ count → IsPartingBefore program config thread journal count fault → ⊥
-  not_counted n fault shown p = elim (compared p.parting.turns n) [
+  not_counted n fault shown p = elim (cases_lt_eq_gt p.parting.turns n) [
     | inl less ↦
         parted n p.parting.turns (place p.parting.turns) fault (omega (arith, less)) refl p.parting.parts shown
         (p.before p.parting.turns (omega arith))
@@ -148,7 +150,7 @@ module _ (file report : List ℕ) (thread count : ℕ) (a b : IsBlockIn file rep
 pub one_checkpoint : (file report : List ℕ) (thread count : ℕ) (text other : List ℕ) → IsCheckpointOf file report thread count text
     → IsCheckpointOf file report thread count other → text ≡ other
 one_checkpoint file report thread count text other h g =
-    let said = same_said (report_in report) h.at.said g.at.said h.at.reads g.at.reads in
+    let said = one_Ok (report_in report) h.at.said g.at.said h.at.reads g.at.reads in
     let there = stands_there file report thread count h.at g.at h.state h.used h.stands in
     let state =
     one_stand g.at.program g.at.config thread g.at.block.journal count h.state g.state h.used g.used there g.stands in

@@ -1,8 +1,8 @@
 -- What the debugger prints for a script is one text, and where memory is wanting a front of it.
-use Rattle.std.proofs.Common.{◌≡◌, inl, inr, ℕ, ◌++◌, List, [], ◌∷◌, Result, Ok, sym, ◌∙◌, ap, subst, arith}
+use Rattle.std.proofs.Common.{◌≡◌, inl, inr, ℕ, ◌++◌, List, [], ◌∷◌, sym, ◌∙◌, ap, subst, arith}
 use Rattle.std.proofs.Common.{append_assoc}
-use Rattle.lone_runner.proofs.Partings.{compared}
-use Rattle.line_reader.specs.File.{Fault}
+use Rattle.plain_lemmas.proofs.Options.{one_Ok}
+use Rattle.plain_lemmas.proofs.Numbers.{cases_lt_eq_gt}
 use Rattle.script_reader.specs.Script.{script_in}
 use Rattle.script_reader.specs.declared.command.DebugCommand.{DebugCommand}
 use Rattle.script_reader.specs.declared.command.DebugCommand.TheVariants.{Step, Back, Goto, Break}
@@ -19,7 +19,7 @@ use Rattle.smemu_laws.proofs.OneAnswer.{one_block}
 
 -- the next count with a PC is one
 one_next : (r : Recording) (from address p q : ℕ) → IsNext r from address p → IsNext r from address q → p ≡ q
-one_next r from address p q h g = elim (compared p q) [
+one_next r from address p q h g = elim (cases_lt_eq_gt p q) [
   | inl less ↦ absurd (g.first p h.state h.above less h.shown h.there)
   | inr (inl same) ↦ same
   | inr (inr more) ↦ absurd (h.first q g.state g.above more g.shown g.there)
@@ -80,13 +80,10 @@ same_recording file report thread a b =
       last = (one.block i).count;
     }
 
-same_commands : (read : Result (List DebugCommand) Fault) (a b : List DebugCommand) → read ≡ Ok a → read ≡ Ok b → a ≡ b
-same_commands read a b e h = cc
-
 pub one_debug : (file report : List ℕ) (thread : ℕ) (script text other : List ℕ) → IsDebugOf file report thread script text
     → IsDebugOf file report thread script other → text ≡ other
 one_debug file report thread script text other h g =
-    let commands = same_commands (script_in script) h.commands g.commands h.said g.said in
+    let commands = one_Ok (script_in script) h.commands g.commands h.said g.said in
     let here =
     subst (λ (r : Recording). Leads r 0 h.commands h.prints.0 text) (same_recording file report thread h.at g.at) h.prints.1 in
     let there = subst (λ (cs : List DebugCommand). Leads (recorded g.at) 0 cs h.prints.0 text) commands here in

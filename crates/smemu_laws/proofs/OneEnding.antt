@@ -1,5 +1,6 @@
 -- Over files that are told, what is asked for has one ending.
-use Rattle.std.proofs.Common.{◌≡◌, ◌≢◌, inl, inr, ℕ, ◌+◌, List, [], ◌∷◌, Option, Some, None, refl, sym, ◌∙◌, ap, subst}
+use Rattle.std.proofs.Common.{◌≡◌, ◌≢◌, inl, inr, ℕ, ◌+◌, List, [], ◌∷◌, Option, Some, refl, sym, ◌∙◌, ap, subst}
+use Rattle.plain_lemmas.proofs.Options.{none_not_some, one_Ok, one_Some}
 use Rattle.sha2.specs.Sha256.{sha256}
 use Rattle.sm_types.specs.Options.{version_of}
 use Rattle.sm_types.specs.declared.config.Config.{Config}
@@ -17,7 +18,7 @@ use Rattle.lone_runner.proofs.Partings.{ends_whole, one_fault}
 use Rattle.lone_runner.proofs.Runs.{one_state, one_stop}
 use Rattle.paged_memory.specs.Image.{Program}
 use Rattle.report_reader.specs.Block.{Block}
-use Rattle.line_reader.specs.Difference.{Difference, first_difference}
+use Rattle.line_reader.specs.Difference.{first_difference}
 use Rattle.line_reader.specs.Lines.{lines_of}
 use Rattle.report_reader.specs.Reading.{Fault}
 use Rattle.report_reader.specs.Report.{report_in}
@@ -38,16 +39,13 @@ use Rattle.smemu.specs.declared.rejection.Rejection.{Rejection}
 use Rattle.smemu.specs.declared.rejection.Rejection.TheVariants as rejection
 use Rattle.smemu_laws.specs.OneAnswer.{AreOneText}
 use Rattle.smemu_laws.proofs.Fates.{Fate, AllAccepted, Missing, Refused, IsDecided, missing_line, accepted_fate, decided}
-use Rattle.smemu_laws.proofs.OneAnswer.{same_said, no_line, none_some, one_assembly, one_block, one_listing, one_replay, one_run_report}
+use Rattle.smemu_laws.proofs.OneAnswer.{no_line, one_assembly, one_block, one_listing, one_replay, one_run_report}
 use Rattle.smemu_laws.proofs.OneAnswer.{one_answers, one_bench, one_simulation}
 use Rattle.smemu_laws.proofs.OneCheck.{lawful_or_not, one_lawful, one_unlawful}
 use Rattle.smemu_laws.proofs.OneCheckpoint.{one_checkpoint, one_late, one_short, short_or_late, stands_or_late, stands_or_short}
 use Rattle.smemu_laws.proofs.OneResume.{differs_or_other, one_rest_difference, one_resume, resumed_or_differs, resumed_or_other}
 use Rattle.smemu_laws.proofs.OneDebug.{debug_whole, one_debug}
 use Rattle.command_lines.specs.Texts.{HasFront}
-
-no_fault : (o : Option Fault) (fault : Fault) → o ≡ None → o ≡ Some fault → ⊥
-no_fault o fault e h = cc
 
 -- the two ends of one block are one
 one_end_text : (program : Program) (config : Config) (thread : ℕ) (block : Block) (a b : EndsAsSaid program config thread block)
@@ -85,7 +83,7 @@ done_differs file report thread text other h (inr g) =
     let same = same_end h.at.program g.at.program h.at.config g.at.config thread h.at.block g.at.block one.program one.config one.block
     h.end g.end in
     let texts : text_in report g.at.block ≡ text_of g.end = ap (text_in report) (sym one.block) ∙ h.same ∙ h.is_text ∙ same in
-    none_some (first_difference 0 (lines_of (text_in report g.at.block)) (lines_of (text_of g.end))) g.it
+    none_not_some (first_difference 0 (lines_of (text_in report g.at.block)) (lines_of (text_of g.end))) g.it
     (ap (λ (t : List ℕ). first_difference 0 (lines_of t) (lines_of (text_of g.end))) texts ∙ no_line 0 (lines_of (text_of g.end))) g.first
 
 -- a thread that ends as its block says does not part
@@ -107,23 +105,20 @@ check_parts file report thread text abi h g =
 matched : (file report : List ℕ) (thread : ℕ) (at : IsBlockIn file report thread) (fault : Fault) → IsMismatched file report thread fault
     → ⊥
 matched file report thread at fault h =
-    no_fault (mismatch (sha256 file) thread at.said) fault at.matches
-    (ap (mismatch (sha256 file) thread) (same_said (report_in report) at.said h.said at.reads h.reads) ∙ h.is_fault)
+    none_not_some (mismatch (sha256 file) thread at.said) fault at.matches
+    (ap (mismatch (sha256 file) thread) (one_Ok (report_in report) at.said h.said at.reads h.reads) ∙ h.is_fault)
 
 block_of : (file report : List ℕ) (thread : ℕ) (text : List ℕ) → DiffersSo file report thread text → IsBlockIn file report thread
 block_of file report thread text (inl parted) = parted.at
 block_of file report thread text (inr another) = another.at
 
-same_fault : (o : Option Fault) (f g : Fault) → o ≡ Some f → o ≡ Some g → f ≡ g
-same_fault o f g e h = cc
-
 -- two lines of a report that is one of another program are one
 one_mismatch : (file report : List ℕ) (thread : ℕ) (text other : List ℕ) → MismatchesSo file report thread text
     → MismatchesSo file report thread other → text ≡ other
 one_mismatch file report thread text other h g =
-    let said = same_said (report_in report) h.is_mismatched.said g.is_mismatched.said h.is_mismatched.reads g.is_mismatched.reads in
+    let said = one_Ok (report_in report) h.is_mismatched.said g.is_mismatched.said h.is_mismatched.reads g.is_mismatched.reads in
     let fault =
-    same_fault (mismatch (sha256 file) thread g.is_mismatched.said) h.fault g.fault
+    one_Some (mismatch (sha256 file) thread g.is_mismatched.said) h.fault g.fault
     (ap (mismatch (sha256 file) thread) (sym said) ∙ h.is_mismatched.is_fault) g.is_mismatched.is_fault in
     h.is_text ∙ ap report_line fault ∙ sym g.is_text
 
@@ -135,9 +130,6 @@ module _ (program p : Program) (config k : Config) (thread : ℕ) (block b : Blo
         let here = subst (λ (q : Program). IsParting q config thread block.journal block.count fault) is h in
         let there = subst (λ (q : Config). IsParting p q thread block.journal block.count fault) same here in
         subst (λ (q : Block). IsParting p k thread q.journal q.count fault) one there
-
-same_difference : (o : Option Difference) (a b : Difference) → o ≡ Some a → o ≡ Some b → a ≡ b
-same_difference o a b e h = cc
 
 -- two texts that say where a thread and its report part are one
 one_difference : (file report : List ℕ) (thread : ℕ) (text other : List ℕ) → DiffersSo file report thread text
@@ -162,7 +154,7 @@ one_difference file report thread text other (inr h) (inr g) =
     let same =
     same_end h.at.program g.at.program h.at.config g.at.config thread h.at.block g.at.block one.program one.config one.block h.end g.end in
     let it =
-    same_difference (first_difference 0 (lines_of (text_in report g.at.block)) (lines_of (text_of g.end))) h.it g.it
+    one_Some (first_difference 0 (lines_of (text_in report g.at.block)) (lines_of (text_of g.end))) h.it g.it
     ((λ i. first_difference 0 (lines_of (text_in report (sym one.block i))) (lines_of (sym same i))) ∙ h.first) g.first in
     h.is_text ∙ (λ i. difference_lines ((one.block i).first_line + (it i).line) (it i).first (it i).second) ∙ sym g.is_text
 

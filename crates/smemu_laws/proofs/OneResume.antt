@@ -1,9 +1,11 @@
 -- What is written of the rest of the run of a thread of a report, from a checkpoint, is one.
-use Rattle.std.proofs.Common.{◌≡◌, inl, inr, ℕ, suc, ◌+◌, true, false, Bool, cond, List, [], drop, Option, Some, None, refl}
+use Rattle.std.proofs.Common.{◌≡◌, inl, inr, ℕ, suc, ◌+◌, true, false, Bool, cond, List, [], drop, Some, None, refl}
 use Rattle.std.proofs.Common.{sym, ◌∙◌}
 use Rattle.std.proofs.Common.{ap, subst, arith}
 use Rattle.std.specs.Prelude.{nat_lt, slice_get}
 use Rattle.std.specs.Str.{bytes_eq}
+use Rattle.plain_lemmas.proofs.Options.{none_not_some, one_Ok, one_Some}
+use Rattle.plain_lemmas.proofs.Numbers.{cases_lt_eq_gt}
 use Rattle.sha2.specs.Sha256.{sha256}
 use Rattle.sm_types.proofs.Options.{same_numbers}
 use Rattle.sm_types.specs.Options.{version_of}
@@ -14,13 +16,13 @@ use Rattle.kernel_contexts.specs.State.{State}
 use Rattle.kernel_contexts.specs.Run.{Reached, Ended, reach_from, turned}
 use Rattle.lone_runner.specs.Rest.{EndsFrom, IsPartingFrom, IsRestOfRun}
 use Rattle.lone_runner.specs.declared.fault.AloneFault.{AloneFault}
-use Rattle.lone_runner.proofs.Partings.{compared, one_rest_fault, rest_ends}
+use Rattle.lone_runner.proofs.Partings.{one_rest_fault, rest_ends}
 use Rattle.lone_runner.proofs.Places.{stays_at}
 use Rattle.field_table.proofs.Tables.{one_filling}
 use Rattle.ckpt_fields.specs.Rows.{checkpoint_table}
 use Rattle.ckpt_file.specs.Checkpoint.{checkpoint, checkpoint_values, ReadsCheckpoint}
 use Rattle.ckpt_file.proofs.One.{same_events, same_state, same_thread}
-use Rattle.line_reader.specs.Difference.{Difference, first_difference}
+use Rattle.line_reader.specs.Difference.{first_difference}
 use Rattle.line_reader.specs.Lines.{lines_of}
 use Rattle.report_reader.specs.Block.{Block}
 use Rattle.report_reader.specs.Reading.{Fault}
@@ -31,7 +33,7 @@ use Rattle.command_lines.specs.ReportLines.{difference_lines}
 use Rattle.report_compare.specs.DifferLines.{parting_line}
 use Rattle.smemu.specs.Replay.{text_in}
 use Rattle.smemu.specs.Resume.{rest_of, rest_text, IsOtherProgram, IsRestIn, IsResumeOf, RestDiffers, RestEnds}
-use Rattle.smemu_laws.proofs.OneAnswer.{no_line, none_some, same_said}
+use Rattle.smemu_laws.proofs.OneAnswer.{no_line}
 
 -- ---- a rest of a run ends once
 
@@ -45,7 +47,7 @@ module _ (config : Config) (thread : ℕ) (from : State) (done : ℕ) (events : 
 
   both_end : (s t : State) (p q : Stop) (u v m n : ℕ) → there m ≡ Ended s p u [] → there n ≡ Ended t q v []
       → ◌≡◌ {A = Reached} (Ended s p u []) (Ended t q v [])
-  both_end s t p q u v m n h k = elim (compared m n) [
+  both_end s t p q u v m n h k = elim (cases_lt_eq_gt m n) [
     | inl less ↦ sym (stays_at config thread there step (Ended s p u []) refl m n (omega (arith, less)) h) ∙ k
     | inr (inl same) ↦ sym h ∙ ap there same ∙ k
     | inr (inr more) ↦ sym h ∙ stays_at config thread there step (Ended t q v []) refl n m (omega (arith, more)) k
@@ -88,9 +90,6 @@ module _ (bytes : List ℕ) (said : Report) (s r : State) (thread number events 
 
 -- ---- so the rest of a run is one
 
-same_block : (o : Option Block) (a b : Block) → o ≡ Some a → o ≡ Some b → a ≡ b
-same_block o a b e h = cc
-
 pub record Told : Type 0 where
   pub config : Config
   pub thread : ℕ
@@ -103,7 +102,7 @@ told r = record { config = r.at.config; thread = r.thread; from = r.from; used =
 
 pub one_told : (file report bytes : List ℕ) (a b : IsRestIn file report bytes) → told a ≡ told b
 one_told file report bytes a b =
-    let said = same_said (report_in report) a.at.said b.at.said a.at.reads b.at.reads in
+    let said = one_Ok (report_in report) a.at.said b.at.said a.at.reads b.at.reads in
     let config =
     same_numbers a.at.config b.at.config (a.at.given ∙ ap (λ (r : Report). r.options) said ∙ sym b.at.given) in
     let reads : ReadsCheckpoint bytes b.at.said a.from a.thread a.used =
@@ -112,7 +111,7 @@ one_told file report bytes a b =
     let from = read_state bytes b.at.said a.from b.from a.thread b.thread a.used b.used reads b.reads in
     let used = read_events bytes b.at.said a.from b.from a.thread b.thread a.used b.used reads b.reads in
     let block =
-    same_block (slice_get b.at.said.blocks b.thread) a.at.block b.at.block
+    one_Some (slice_get b.at.said.blocks b.thread) a.at.block b.at.block
     (sym (λ i. slice_get (said i).blocks (thread i)) ∙ a.at.stands) b.at.stands in
     λ i. record { config = config i; thread = thread i; from = from i; used = used i; block = block i }
 
@@ -169,9 +168,6 @@ pub one_resume : (file report bytes text other : List ℕ) → IsResumeOf file r
     → text ≡ other
 one_resume file report bytes text other h g = sym h.same ∙ one_block_text file report bytes h.rest g.rest ∙ g.same
 
-same_difference : (o : Option Difference) (a b : Difference) → o ≡ Some a → o ≡ Some b → a ≡ b
-same_difference o a b e h = cc
-
 pub one_rest_difference : (file report bytes text other : List ℕ) → RestDiffers file report bytes text
     → RestDiffers file report bytes other → text ≡ other
 one_rest_difference file report bytes text other (inl h) (inl g) =
@@ -184,7 +180,7 @@ one_rest_difference file report bytes text other (inr h) (inr g) =
     let texts = same_text file report bytes h.rest g.rest h.end g.end in
     let blocks = one_block_text file report bytes h.rest g.rest in
     let it =
-    same_difference (first_difference 0 (lines_of (text_in report g.rest.at.block)) (lines_of (rest_text g.rest g.end))) h.it g.it
+    one_Some (first_difference 0 (lines_of (text_in report g.rest.at.block)) (lines_of (rest_text g.rest g.end))) h.it g.it
     (sym (λ i. first_difference 0 (lines_of (blocks i)) (lines_of (texts i))) ∙ h.first) g.first in
     let line = ap (λ (t : Told). t.block.first_line) (same file report bytes h.rest g.rest) in
     h.is_text ∙ (λ i. difference_lines (line i + (it i).line) (it i).first (it i).second) ∙ sym g.is_text
@@ -196,7 +192,7 @@ resumed_or_differs file report bytes text other h (inl g) =
 resumed_or_differs file report bytes text other h (inr g) =
     let texts : text_in report g.rest.at.block ≡ rest_text g.rest g.end =
     sym (one_block_text file report bytes h.rest g.rest) ∙ h.same ∙ h.is_text ∙ same_text file report bytes h.rest g.rest h.end g.end in
-    none_some (first_difference 0 (lines_of (text_in report g.rest.at.block)) (lines_of (rest_text g.rest g.end))) g.it
+    none_not_some (first_difference 0 (lines_of (text_in report g.rest.at.block)) (lines_of (rest_text g.rest g.end))) g.it
     (ap (λ (t : List ℕ). first_difference 0 (lines_of t) (lines_of (rest_text g.rest g.end))) texts
     ∙ no_line 0 (lines_of (rest_text g.rest g.end))) g.first
 
@@ -208,7 +204,7 @@ matches_so false lower f g e = cc
 
 other_program : (file report bytes text : List ℕ) (r : IsRestIn file report bytes) → IsOtherProgram file report bytes text → ⊥
 other_program file report bytes text r h =
-    let said = same_said (report_in report) r.at.said h.said r.at.reads h.reads in
+    let said = one_Ok (report_in report) r.at.said h.said r.at.reads h.reads in
     let is : bytes_eq r.at.said.image (sha256 file) ≡ true =
     matches_so (bytes_eq r.at.said.image (sha256 file)) (nat_lt r.thread r.at.said.options.threads)
     (record { line = 2; kind = NoThread })

@@ -1,8 +1,11 @@
 -- From a checkpoint that was written of a thread of a report, the rest of its run is written as its replay is.
-use Rattle.std.proofs.Common.{◌≡◌, ◌⊎◌, inl, inr, ℕ, ◌+◌, ◌<◌, ◌≤◌, ◌++◌, List, [], ◌∷◌, length, Some, refl, sym, ◌∙◌, ap, subst, arith}
+use Rattle.std.proofs.Common.{◌≡◌, ◌⊎◌, inl, inr, ℕ, ◌+◌, ◌<◌, ◌≤◌, List, [], Some, refl, sym, ◌∙◌, ap, subst, arith}
 use Rattle.std.specs.List.{concat}
 use Rattle.std.specs.Prelude.{◌↔◌, drop}
 use Rattle.std.proofs.lemmas.List.Folds.{concat-append}
+use Rattle.plain_lemmas.proofs.Lists.{append_inj}
+use Rattle.plain_lemmas.proofs.Options.{one_Ok}
+use Rattle.plain_lemmas.proofs.Numbers.{cases_lt_eq_gt}
 use Rattle.byteorder.specs.Endian.{little_bytes, little_number}
 use Rattle.sm_types.specs.Options.{version_of}
 use Rattle.sm_types.specs.declared.config.Config.{Config}
@@ -15,7 +18,6 @@ use Rattle.lone_runner.specs.Parting.{IsParting}
 use Rattle.lone_runner.specs.Rest.{EndsFrom, IsPartingFrom, IsRestOfRun}
 use Rattle.lone_runner.specs.declared.fault.AloneFault.{AloneFault}
 use Rattle.run_laws.specs.Rests.{ComesToTheRun}
-use Rattle.lone_runner.proofs.Partings.{compared}
 use Rattle.run_laws.proofs.Rests.{comes_to_the_run, not_used_up, within_budget}
 use Rattle.ckpt_fields.specs.Values.{first_values, thread_values}
 use Rattle.ckpt_file.specs.Checkpoint.{checkpoint, checkpoint_values, ReadsCheckpoint}
@@ -31,7 +33,7 @@ use Rattle.report_compare.specs.DifferLines.{parting_line}
 use Rattle.smemu.specs.Replay.{text_in, text_of, DiffersSo, EndsAsSaid, IsBlockIn, IsReplayOf}
 use Rattle.smemu.specs.Resume.{rest_of, IsRestIn, IsResumeOf, RestDiffers, RestEnds}
 use Rattle.smemu_laws.proofs.GoesOn.{below_budget, budget_kept}
-use Rattle.smemu_laws.proofs.OneAnswer.{one_block, same_said}
+use Rattle.smemu_laws.proofs.OneAnswer.{one_block}
 use Rattle.smemu_laws.proofs.OneResume.{one_told, told, Told}
 
 -- ---- the replay of a block, by what it is of
@@ -193,26 +195,15 @@ left_over file report thread count bytes text c h =
 
 -- ---- where the report reads what was written, it was not either
 
-same_front : (v w more rest : List ℕ) → length v ≡ length w → v ++ more ≡ w ++ rest → (v ≡ w) × (more ≡ rest)
-same_front [] [] more rest l e = (refl, e)
-same_front [] (y ∷ ys) more rest l e = absurd (omega (arith, l))
-same_front (x ∷ xs) [] more rest l e = absurd (omega (arith, l))
-same_front (x ∷ xs) (y ∷ ys) more rest l e =
-    let first : x ≡ y = cc in
-    let others : xs ++ more ≡ ys ++ rest = cc in
-    let long : length xs ≡ length ys = omega (arith, l) in
-    let same = same_front xs ys more rest long others in
-    ((λ i. first i ∷ same.0 i), same.1)
-
 -- the fields of two counts in one file
 count_fields : (digest : List ℕ) (options : Numbers) (s t : State) (m n u v : ℕ)
     → checkpoint digest options s m u ≡ checkpoint digest options t n v → little_bytes 4 s.count ≡ little_bytes 4 t.count
 unfolding checkpoint checkpoint_values thread_values
 count_fields digest options s t m n u v e =
     let front = first_values digest options in
-    let later = same_front (concat front) (concat front) _ _ refl (sym (concat-append front _) ∙ e ∙ concat-append front _) in
-    let number = same_front (little_bytes 4 m) (little_bytes 4 n) _ _ refl later.1 in
-    (same_front (little_bytes 4 s.count) (little_bytes 4 t.count) _ _ refl number.1).0
+    let later = append_inj (concat front) (concat front) _ _ refl (sym (concat-append front _) ∙ e ∙ concat-append front _) in
+    let number = append_inj (little_bytes 4 m) (little_bytes 4 n) _ _ refl later.1 in
+    (append_inj (little_bytes 4 s.count) (little_bytes 4 t.count) _ _ refl number.1).0
 
 module _ (file report : List ℕ) (thread count : ℕ) (bytes : List ℕ) (c : IsCheckpointOf file report thread count bytes)
     (r : IsRestIn file report bytes)
@@ -220,7 +211,7 @@ module _ (file report : List ℕ) (thread count : ℕ) (bytes : List ℕ) (c : I
     reads_there : ReadsCheckpoint bytes c.at.said r.from r.thread r.used
     reads_there =
         subst (λ (s : Report). ReadsCheckpoint bytes s r.from r.thread r.used)
-        (same_said (report_in report) r.at.said c.at.said r.at.reads c.at.reads) r.reads
+        (one_Ok (report_in report) r.at.said c.at.said r.at.reads c.at.reads) r.reads
 
     corner : c.at.config.budget ≤ count → ⊥
     corner over =
@@ -238,7 +229,7 @@ module _ (file report : List ℕ) (thread count : ℕ) (bytes : List ℕ) (c : I
         omega (arith, read, below)
 
     budget_left : count < c.at.config.budget
-    budget_left = elim (compared count c.at.config.budget) [
+    budget_left = elim (cases_lt_eq_gt count c.at.config.budget) [
       | inl less ↦ less
       | inr (inl same) ↦ absurd (corner (omega (arith, same)))
       | inr (inr more) ↦ absurd (corner (omega (arith, more)))

@@ -3,6 +3,7 @@ use Rattle.std.proofs.Common.{◌≡◌, ℕ, zero, suc, ◌≤◌, ◌==◌, if
 use Rattle.std.proofs.Common.{Some, None}
 use Rattle.std.specs.Prelude.{slice_get, Contains}
 use Rattle.std.proofs.lemmas.Option.{same_Some, none-some}
+use Rattle.plain_lemmas.proofs.Lists.{slice_get-found}
 use Rattle.sm_types.specs.declared.config.Config.{Config}
 use Rattle.sm_types.specs.declared.shared_words.Words.{Words}
 use Rattle.paged_memory.specs.Image.{Program}
@@ -15,7 +16,6 @@ use Rattle.world_core.specs.World.{World, IsOwned, start_world, threads_of, time
 use Rattle.world_core.specs.declared.serial.Phase.{Phase}
 use Rattle.world_core.specs.declared.serial.Phase.TheVariants.{Fills}
 use Rattle.world_core.proofs.Bags.{once_at_most, one_of_itself, total_has}
-use Rattle.world_core.proofs.Scenes.{found_at}
 use Rattle.world_core.proofs.Serials.{lead_world}
 use Rattle.smemu.specs.Worlds.{AreEndsIn, AreSerialEnds, end_in}
 use Rattle.smemu.proofs.Worlds.{plan_kept}
@@ -60,7 +60,7 @@ one_thread_at t (g ∷ gs) (suc i) (suc j) a b x y n m l = one_thread_at t gs i 
 one_thread : (t : ℕ) (gs : List Guest) (a b : Guest) → Contains gs a → Contains gs b → a.number ≡ t → b.number ≡ t → times t gs ≤ 1
     → a ≡ b
 one_thread t gs a b x y n m l =
-    one_thread_at t gs x.0 y.0 a b (found_at gs x.0 a x.1 (sym x.2)) (found_at gs y.0 b y.1 (sym y.2)) n m l
+    one_thread_at t gs x.0 y.0 a b (slice_get-found gs x.0 a x.1 (sym x.2)) (slice_get-found gs y.0 b y.1 (sym y.2)) n m l
 
 same_list : (xs ys : List ThreadEnd) → length xs ≡ length ys
     → ((k : ℕ) (a b : ThreadEnd) → slice_get xs k ≡ Some a → slice_get ys k ≡ Some b → a ≡ b) → xs ≡ ys

@@ -4,7 +4,7 @@ use Rattle.std.proofs.Common.{ap, ◌∙◌}
 use Rattle.std.proofs.Common.{arith, length-append}
 use Rattle.std.specs.Prelude.{◌==◌, ◌%◌, nat_le, nat_lt, option_map, Some}
 use Rattle.std.specs.List.{concat}
-use Rattle.std.proofs.lemmas.Bool.{cond_both}
+use Rattle.std.proofs.lemmas.Bool.{cond_both, leb-true}
 use Rattle.std.proofs.lemmas.Bool.Decides.{nat_tests}
 use Rattle.std.proofs.Math.Nat.{suc-mul}
 use Rattle.sm_types.specs.Length.{bits_of}
@@ -79,9 +79,6 @@ module _ (item : ℕ → (ℕ → Table) → Table) (size : ℕ)
         weaker (size + (count * size + limit)) (suc count * size + limit) _ (omega (arith, longer))
         (one (count * size + limit) key (λ k. repeated item count k next) (λ k. repeated_most count limit k next rest))
 
-is_few : (n most : ℕ) → nat_le n most ≡ true → n ≤ most
-is_few n most e = grind (arith, nat_tests)
-
 -- ---- the table of a checkpoint
 
 page_most : (limit key : ℕ) (follows : ℕ → Table) → ((k : ℕ) → AtMost limit (follows k)) → AtMost (4105 + limit) (page_row key follows)
@@ -95,14 +92,14 @@ pages_most : AtMost 16814084 pages_of
 unfolding pages_of
 pages_most =
     number_most 4 16814080 _ _ (λ n ok.
-    let most : n ≤ 4096 = is_few n 4096 ok in
+    let most : n ≤ 4096 = leb-true n 4096 ok in
     weaker (n * 4105 + 0) 16814080 _ (omega (arith, most)) (repeated_most page_row 4105 page_most n 0 0 End end_most))
 
 output_most : AtMost 17862664 from_output
 unfolding output_rows
 output_most =
     number_most 4 17862660 _ _ (λ n ok.
-    let most : n ≤ 1048576 = is_few n 1048576 ok in
+    let most : n ≤ 1048576 = leb-true n 1048576 ok in
     weaker (1 * 1048576 + 16814084) 17862660 _ (omega arith) (fields_most 1 n 1048576 16814084 pages_of most pages_most))
 
 handler_most : (limit key : ℕ) (follows : ℕ → Table) → ((k : ℕ) → AtMost limit (follows k)) → AtMost (12 + limit) (handler_row key follows)
@@ -115,7 +112,7 @@ handlers_most : AtMost 17863412 from_handlers
 unfolding handlers_of
 handlers_most =
     number_most 4 17863408 _ _ (λ n ok.
-    let most : n ≤ 62 = is_few n 62 ok in
+    let most : n ≤ 62 = leb-true n 62 ok in
     weaker (n * 12 + 17862664) 17863408 _ (omega (arith, most))
     (repeated_most handler_row 12 handler_most n 17862664 0 from_output output_most))
 

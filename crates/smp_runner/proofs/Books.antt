@@ -3,7 +3,7 @@ use Rattle.std.proofs.Common.{◌≡◌, ◌≢◌, ℕ, zero, suc, ◌+◌, ◌
 use Rattle.std.proofs.Common.{refl, sym, ap, ◌∙◌, subst, append_assoc, arith}
 use Rattle.std.specs.Prelude.{Some, All, slice_index_or, slice_set}
 use Rattle.std.specs.List.{range_with_len}
-use Rattle.std.proofs.lemmas.List.{map-append, length-map, length_push, append-nil}
+use Rattle.std.proofs.lemmas.List.{length-map, length_push, append-nil, map_push}
 use Rattle.std.proofs.lemmas.List.Elements.{All-nil, All-cons, All-append}
 use Rattle.sm_types.specs.declared.shared_op.Event.{Event}
 use Rattle.shared_table.specs.declared.view.Told.{Told}
@@ -149,9 +149,6 @@ starts f xs v n none is =
     let same : n ≡ n - 0 = omega arith in
     is ∙ ap (λ k. Maker (book_at [] k n)) same ∙ ap (λ l. Maker (book_at (map f l) (n - length l) n)) (sym none)
 
-map-end : {X Y : Type 0} (f : X → Y) (xs : List X) (x : X) → map f (xs ++ x ∷ []) ≡ map f xs ++ f x ∷ []
-map-end f xs x = map-append f xs (x ∷ [])
-
 -- the seat of the next thread is taken back, and its context put to the others
 pub taken_in : {X : Type 0} (f : X → List Event) (v w u : SeatView) (xs ys : List X) (x : X) (n : ℕ)
     → v ≡ Maker (book_at (map f xs) (n - length xs) n) → length xs < n
@@ -159,7 +156,7 @@ pub taken_in : {X : Type 0} (f : X → List Event) (v w u : SeatView) (xs ys : L
     → u ≡ Maker (book_at (map f ys) (n - length ys) n)
 taken_in f v w u xs ys x n is lt num ev new more =
     taken v w u (map f xs) (f x) (length xs) n is lt (length-map xs f) num ev new
-    ∙ ap (λ l. Maker (book_at l (n - (length xs + 1)) n)) (sym (map-end f xs x) ∙ ap (map f) (sym more))
+    ∙ ap (λ l. Maker (book_at l (n - (length xs + 1)) n)) (sym (map_push f xs x) ∙ ap (map f) (sym more))
     ∙ ap (λ (k : ℕ). Maker (book_at (map f ys) (n - k) n)) (sym (length_push xs x) ∙ ap length (sym more))
 
 -- ---- a list whose items are taken from the front and put after others

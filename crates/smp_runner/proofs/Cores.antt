@@ -1,12 +1,12 @@
 -- What the calls of a core make of what the queue sees of it.
 use Rattle.std.proofs.Common.{◌≡◌, ◌≢◌, ℕ, ◌<◌, Bool, true, false, List, [], ◌∷◌, ◌++◌, map, length, refl, sym, ap, ◌∙◌, subst, arith}
-use Rattle.std.specs.Prelude.{Option, Some, None, All}
+use Rattle.std.specs.Prelude.{Option, All}
 use Rattle.std.proofs.lemmas.List.{length-append, map_push}
 use Rattle.std.proofs.lemmas.List.Elements.{All-nil, All-cons, All-head, All-tail}
+use Rattle.std.proofs.lemmas.Option.{none-some}
 use Rattle.sm_types.specs.declared.config.Config.{Config}
 use Rattle.sm_types.specs.declared.shared_op.SharedOp.{SharedOp}
 use Rattle.sm_types.specs.declared.shared_op.Event.{Event}
-use Rattle.sm_types.specs.declared.stop.Stop.{Stop}
 use Rattle.shared_region.specs.Tickets.{TicketView, Refusals, IsAllowed}
 use Rattle.kernel_contexts.specs.Call.{TurnEnd, Goes, Yields, Asks, Ends}
 use Rattle.kernel_contexts.specs.Context.{AsksFor}
@@ -26,9 +26,6 @@ use Rattle.thread_lists.proofs.Sums.{mark_same}
 use Rattle.smp_runner.specs.Contexts.{ticketed_held, residents_in, stopped_in, IsSameCore, HasStopped, IsSameTicketed, Holds, HoldsWith}
 use Rattle.smp_runner.specs.Contexts.{HasEnded, IsOf}
 use Rattle.smp_runner.proofs.Holding.{IsFrom, starts, got, goes_on, stops, room, collects, is_held, gives, ends, of_known}
-
-some-none : (s : Stop) → Some s ≡ None → ⊥
-some-none s e = cc
 
 pub same_core : {T : Type 0} (old new : CoreState T) → new ≡ old → IsSameCore old new
 same_core old new e = record { number = ap (λ c. c.number) e; config = ap (λ c. c.config) e }
@@ -160,7 +157,7 @@ module _ {T : Type 0} (tells : T → TicketView) where
     by_why Spent turns v first last others old new done was h same end is = stays v first last others old new done was h same is
     by_why Yielded turns v first last others old new done was h same end is = stays v first last others old new done was h same is
     by_why Stopped turns v first last others old new done was h same end is =
-        leaves v first last others old new done was h same (λ none. some-none end.0 (sym end.2 ∙ none)) is
+        leaves v first last others old new done was h same (λ none. none-some end.0 (sym (sym end.2 ∙ none))) is
     by_why Idle turns v first last others old new done was h same end is = absurd end
     by_why TraceEnds turns v first last others old new done was h same end is = stays v first last others old new done was h same is
     by_why TraceDiffers turns v first last others old new done was h same end is = stays v first last others old new done was h same is

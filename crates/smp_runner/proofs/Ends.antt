@@ -1,5 +1,6 @@
 -- How a turn on a context's own save area ends, over a port that refuses nothing but for want of memory.
 use Rattle.std.proofs.Common.{◌≡◌, ◌≢◌, ◌∙◌, sym, subst}
+use Rattle.std.proofs.lemmas.Option.{none-some}
 use Rattle.std.specs.Prelude.{Option, Some, None}
 use Rattle.sm_types.specs.declared.shared_op.SharedOp.{SharedOp}
 use Rattle.sm_types.specs.declared.stop.Stop.{Stop}
@@ -17,9 +18,6 @@ asks_nothing (Yields s) F none h = h
 asks_nothing (Asks op next) F none h = none op h
 asks_nothing (Ends s stop) F none h = h
 
-some-none : (s : Stop) → Some s ≡ None → ⊥
-some-none s e = cc
-
 stopped-ends : (s : Stop) → Stopped s ≡ TraceEnds → ⊥
 stopped-ends s e = cc
 
@@ -35,11 +33,11 @@ pub stops_at : (o : Option Stop) (r : Refusals) (old new : Context) (turn : Turn
 stops_at None r old new Ran s h e = absurd (cc)
 stops_at None r old new Yielded s h e = absurd (cc)
 stops_at None r old new NeedsBank s h e = absurd h
-stops_at None r old new (Stopped t) s h e = λ none. some-none t (sym h.2 ∙ none)
+stops_at None r old new (Stopped t) s h e = λ none. none-some t (sym (sym h.2 ∙ none))
 stops_at None r old new TraceEnds s h e = absurd (cc)
 stops_at None r old new TraceDiffers s h e = absurd (cc)
 stops_at None r old new Memory s h e = absurd (cc)
-stops_at (Some t) r old new turn s h e = λ none. some-none t (sym h.3 ∙ none)
+stops_at (Some t) r old new turn s h e = λ none. none-some t (sym (sym h.3 ∙ none))
 
 module _ (r : Refusals) (allowed : (op : SharedOp) → IsAllowed r op) (old new : Context) where
   pub goes : (o : Option Stop) (turn : Turn) → TurnsOrStays o r old new turn → turn ≢ TraceEnds

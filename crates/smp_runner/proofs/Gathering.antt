@@ -1,8 +1,9 @@
 -- What the caller gathers is what the first pass holds.
-use Rattle.std.proofs.Common.{◌≡◌, ℕ, ◌+◌, true, false, List, [], ◌∷◌, ◌++◌, map, refl, ap, ◌∙◌, subst, arith}
+use Rattle.std.proofs.Common.{◌≡◌, ℕ, ◌+◌, true, List, [], ◌∷◌, ◌++◌, map, refl, ap, ◌∙◌, subst, arith}
 use Rattle.std.specs.Prelude.{Option, Some}
 use Rattle.std.proofs.lemmas.List.{map-append, map_push}
 use Rattle.std.proofs.lemmas.List.Elements.{All-push, All-append}
+use Rattle.std.proofs.lemmas.Bool.{false≢true}
 use Rattle.run_queue.specs.declared.origin.Origin.{Origin}
 use Rattle.run_queue.specs.declared.view.PassView.{PassView}
 use Rattle.run_queue.specs.declared.view.Role.{Role}
@@ -21,14 +22,11 @@ threads-append : (xs ys : List Ticketed) (t : ℕ) → occurrences t (threads_in
 threads-append xs ys t =
     ap (occurrences t) (map-append (λ (x : Ticketed). x.thread) xs ys) ∙ occurrences-append t (threads_in xs) (threads_in ys)
 
-true_false : false ≡ true → ⊥
-true_false e = cc
-
 first_is : (r : Role) → is_first_pass r ≡ true → r ≡ First (given_in r)
-first_is Unopened is = absurd (true_false is)
+first_is Unopened is = absurd (false≢true is)
 first_is (First given) is = refl
-first_is (Numbered n) is = absurd (true_false is)
-first_is Spent is = absurd (true_false is)
+first_is (Numbered n) is = absurd (false≢true is)
+first_is Spent is = absurd (false≢true is)
 
 -- a worker that has ended gives what it has collected
 more : (v w u : PassView) (all all' done : List Ticketed) → Gathered v all → w.origin ≡ v.origin → HasEnded w done

@@ -53,12 +53,14 @@ fn run_over<R: Threads + Wait + Sync, G: Gate + Sync>(
     in_order(alloc, image, config, table, maker, all)
 }
 
-/// Runs every thread of the options to its stop, on as many cores as they say, each with a worker in a
-/// thread of the system that does once what `run_worker` does. After they have ended, the caller runs what
-/// is left in the queue. The contexts are those of the threads 0, 1 and so on, in order, each at the stop
-/// to which it comes alone over its own journal; the journals and the words are one history. Which history
-/// it was depends on the order in which the workers came to the words. `Memory`, which is want of memory,
-/// is the only other answer. The call may wait.
+/// Runs every thread of the options to its stop. The contexts are those of the threads 0, 1 and so on, in
+/// order, each at the stop to which it comes alone over its own journal; the journals and the words are one
+/// history. Which history it was depends on the order in which the workers came to the words. `Memory`, which
+/// is want of memory, is the only other answer. The call may wait.
+///
+/// It makes a worker for each core of the options and lets each run in a thread of the system, as
+/// `run_worker` does; after they have ended, the caller runs what is left in the queue. No clause says how
+/// many threads of the system run at once, nor which of them runs a guest thread: tests show it.
 pub fn run_cores<R: Threads + Wait + Sync, G: Gate + Sync>(
     rt: &R,
     alloc: Global,

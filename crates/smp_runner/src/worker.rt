@@ -23,8 +23,9 @@ use sm_types::{Config, Memory};
 use std::sync::Wait;
 use std::thread;
 
-/// Fetches once, where the core has no resident, or one and there are more threads than workers. What comes
-/// is the last resident.
+/// Fetches once, if the core has no resident, or one while the queue has more threads than workers. No clause
+/// says when it fetches, only that a core without a resident has found the queue empty. What comes is the
+/// last resident.
 fn fetch_once<P: Port, R: Wait>(
     rt: &R,
     config: &Config,
@@ -191,18 +192,19 @@ pub(crate) fn work<P: Port, R: Wait, G: Gate>(
 /// The pass is one of this queue, and holds nothing; no fetch or offer was made with it. The core and `done`
 /// are empty. All of them are for threads with these options and with seats of the port's table.
 ///
-/// A turn of the worker is one fetch, where the core has no resident, or has one and there are more threads
-/// than workers that have begun: else what it would fetch is left to a worker that has none. Where it then
-/// has a resident, the turn is the gate's `pass` with the first one's thread, a run of `slice` turns, the
-/// moving of stopped contexts to `done`, and, where two residents are left, an offer of the first one. Where
-/// the run ended as the thread yields, the worker gives the host's processor away, since that thread waits
-/// for others; and so it does where it has no resident. The gate is told the number of turns that had a
-/// resident; at the last `u64` it stays.
+/// How a worker goes on is its body's choice, and no clause speaks of it. As it stands, a turn of the worker
+/// is one fetch, if the core has no resident, or has one while there are more threads than workers that have
+/// begun: else what it would fetch is left to a worker that has none. If it then has a resident, the turn
+/// goes on with the gate's `pass` with the first one's thread, a run of `slice` turns at most, the moving of
+/// stopped contexts to `done`, and, if two residents are left, an offer of the first one. If the run ended
+/// because the thread yields, the worker yields its own processor, since that thread waits for others; it
+/// does so too if it has no resident. The gate is told the number of turns that had a resident; it stays at
+/// the last `u64`.
 ///
 /// After `Ok` the core is empty, and `done` has exactly the threads that the pass holds, each stopped, from
 /// the image and the options that the pass knows, and with a seat of the port's table; the last fetch found
-/// nothing. `Memory` is want of memory: each context whose thread the pass holds is in the core or in `done`.
-/// The call may wait.
+/// nothing. After `Memory`, which is want of memory, each context whose thread the pass holds is in the core
+/// or in `done`. The call may wait.
 pub fn run_worker<'t, R: Wait, G: Gate>(
     rt: &R,
     config: &Config,

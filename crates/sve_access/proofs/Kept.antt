@@ -7,9 +7,10 @@ use Rattle.std.specs.FinMap.{FinMap, get, insert, get-insert}
 use Rattle.std.specs.Cmp.{nat_cmp_total}
 use Rattle.std.specs.Ordering.{nat_cmp}
 use Rattle.std.proofs.lemmas.List.{length-take-le}
+use Rattle.plain_lemmas.proofs.Options.{cond_none}
 use Rattle.paged_memory.specs.Memory.{AddressSpace, byte_with, permitted, permits, first_without, run_of}
 use Rattle.paged_memory.specs.PageTable.{PageTable, AreOwned, OwnsAlso, KeepsOwned, IsOwned}
-use Rattle.paged_memory.proofs.Over.{eq_by_cmp-nat}
+use Rattle.plain_lemmas.proofs.Tests.{eq_by_cmp-nat}
 use Rattle.paged_memory.proofs.Owned.{owns_both}
 use Rattle.vector_elements.specs.declared.size.Size.{Size}
 use Rattle.vector_elements.specs.declared.size.Size.TheVariants.{B, H, S, D}
@@ -56,10 +57,6 @@ unfolding byte_with
 lacks_keeps need m xs bs a there = in_page_keeps need (get m.perm (a / 4096)) (get m.mem a) (get (set_each m.mem xs bs) a)
     (set_keeps m.mem xs bs a) there
 
-passes : (fails : Bool) (a : ℕ) (rest : Option ℕ) → cond fails (Some a) rest ≡ None → fails ≡ false
-passes true a rest none = cc
-passes false a rest none = refl
-
 goes_on : (fails : Bool) (a : ℕ) (rest : Option ℕ) → cond fails (Some a) rest ≡ None → rest ≡ None
 goes_on true a rest none = cc
 goes_on false a rest none = none
@@ -71,7 +68,7 @@ find_keeps need m xs bs [] none = refl
 find_keeps need m xs bs (y ∷ ys) none =
     let rest : Option ℕ = find (lacks need m) ys in
     ap (λ b. cond b (Some y) (find (lacks need (written m xs (Some bs))) ys))
-    (lacks_keeps need m xs bs y (passes (lacks need m y) y rest none))
+    (lacks_keeps need m xs bs y (cond_none (lacks need m y) y rest none))
     ∙ find_keeps need m xs bs ys (goes_on (lacks need m y) y rest none)
 
 pub still_permitted : (need : ℕ) (m : AddressSpace) (xs bs : List ℕ) (a n : ℕ) → first_without need m a n ≡ None

@@ -5,3 +5,5 @@ pub mod Stored
 pub mod Spans
 pub mod Whole
 pub mod Registers
+pub mod Copied
+pub mod Unfaulted

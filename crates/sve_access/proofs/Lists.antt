@@ -1,28 +1,22 @@
 -- The bytes of the active elements, one element further.
-use Rattle.std.proofs.Common.{◌≡◌, ℕ, zero, suc, ◌+◌, ◌<◌, Bool, true, false, cond, List, [], ◌∷◌, ◌++◌}
-use Rattle.std.proofs.Common.{length, refl, ap, sym, ◌∙◌, arith, append-nil, Option, Some, None, All, inl, inr}
+use Rattle.std.proofs.Common.{◌≡◌, ℕ, zero, suc, ◌+◌, ◌<◌, Bool, true, List, [], ◌∷◌, ◌++◌}
+use Rattle.std.proofs.Common.{length, refl, ap, sym, ◌∙◌, arith, append-nil, None, All, inl, inr}
 use Rattle.std.specs.Prelude.{flat_map}
 use Rattle.std.specs.List.{find}
 use Rattle.std.specs.Option.{option_or}
 use Rattle.std.proofs.lemmas.Bool.{cases_lt}
 use Rattle.std.proofs.lemmas.List.Concat.{flat_map-append}
 use Rattle.std.proofs.lemmas.List.Elements.{All-head, All-tail, All-cons}
+use Rattle.std.proofs.lemmas.List.Folds.{find-append}
 use Rattle.std.specs.FinMap.{FinMap, insert}
 use Rattle.std.specs.Ordering.{nat_cmp}
+use Rattle.plain_lemmas.proofs.Options.{second_none, first_none}
 use Rattle.vector_elements.specs.declared.size.Size.{Size}
 use Rattle.vector_elements.specs.Elements.{is_active}
 use Rattle.vector_elements.specs.Numbers.{bytes_in}
 use Rattle.sve_perm.specs.Active.{active_places}
 use Rattle.sve_perm.proofs.Sums.{place_where, places-more}
 use Rattle.mem_access.specs.Values.{set_each}
-
-pub find_append : (test : ℕ → Bool) (xs ys : List ℕ) → find test (xs ++ ys) ≡ option_or (find test xs) (find test ys)
-find_append test [] ys = refl
-find_append test (x ∷ xs) ys =
-    elim (test x) as (λ t. cond t (Some x) (find test (xs ++ ys)) ≡ option_or (cond t (Some x) (find test xs)) (find test ys)) [
-      | true ↦ refl
-      | false ↦ find_append test xs ys
-    ]
 
 -- what a function gives of the active elements among the first k
 abbrev pub of_first : (ℕ → List ℕ) → Size → List ℕ → ℕ → List ℕ
@@ -51,7 +45,7 @@ pub find_more : (test : ℕ → Bool) (f : ℕ → List ℕ) (element : Size) (p
     ≡ find test (of_first f element pg (k + 1))
 find_more test f element pg k =
     sym (ap (find test) (of_more f element pg k)
-    ∙ find_append test (of_first f element pg k) (flat_map f (place_where (is_active (bytes_in element) pg k) k)))
+    ∙ find-append test (of_first f element pg k) (flat_map f (place_where (is_active (bytes_in element) pg k) k)))
 
 -- a property of each byte of the active elements is one of the bytes of each of them
 abbrev pub Holds : (List ℕ → Type 0) → Type 0
@@ -74,19 +68,11 @@ each_active P parts f element pg (suc n) all k lt on =
           rw (sym one) split.1
     ]
 
-first_none : (a b : Option ℕ) → option_or a b ≡ None → a ≡ None
-first_none None b e = refl
-first_none (Some x) b e = e
-
-rest_none : (a b : Option ℕ) → option_or a b ≡ None → b ≡ None
-rest_none None b e = e
-rest_none (Some x) b e = cc
-
 -- no byte of them fails a check
 pub none_fails : (test : ℕ → Bool) → Holds (λ xs. find test xs ≡ None)
 none_fails test xs ys none =
-    let both = sym (find_append test xs ys) ∙ none in
-    (first_none (find test xs) (find test ys) both, rest_none (find test xs) (find test ys) both)
+    let both = sym (find-append test xs ys) ∙ none in
+    (first_none (find test xs) (find test ys) both, second_none (find test xs) (find test ys) both)
 
 pub all_parts : (P : ℕ → Type 0) → Holds (All P)
 all_parts P [] ys all = ((λ k d none. absurd (omega (arith, none))), all)

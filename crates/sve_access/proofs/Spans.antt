@@ -6,6 +6,7 @@ use Rattle.std.specs.Prelude.{flat_map, unwrap_or}
 use Rattle.std.specs.List.{find}
 use Rattle.std.specs.Simd.Lanes.{number_l}
 use Rattle.std.proofs.lemmas.List.Elements.{All-head, All-tail, All-cons, All-append}
+use Rattle.plain_lemmas.proofs.Options.{cond_none}
 use Rattle.sm_types.specs.Bytes.{little_number}
 use Rattle.sm_types.specs.declared.vector.LoadType.{LoadType}
 use Rattle.paged_memory.specs.Memory.{AddressSpace, bytes_with, and_byte, byte_with, run_of}
@@ -28,10 +29,6 @@ use Rattle.sve_access.proofs.Lists.{of_first, of_more, none_first}
 passing : (ℕ → Bool) → ℕ → Type 0
 passing test a = test a ≡ false
 
-passes : (fails : Bool) (a : ℕ) (rest : Option ℕ) → cond fails (Some a) rest ≡ None → fails ≡ false
-passes true a rest none = cc
-passes false a rest none = refl
-
 goes_on : (fails : Bool) (a : ℕ) (rest : Option ℕ) → cond fails (Some a) rest ≡ None → rest ≡ None
 goes_on true a rest none = cc
 goes_on false a rest none = none
@@ -40,7 +37,7 @@ all_pass : (test : ℕ → Bool) (xs : List ℕ) → find test xs ≡ None → A
 unfolding passing
 all_pass test [] none = λ k d lt. absurd (omega (arith, lt))
 all_pass test (x ∷ xs) none =
-    All-cons (passing test) x xs (passes (test x) x (find test xs) none) (all_pass test xs (goes_on (test x) x (find test xs) none))
+    All-cons (passing test) x xs (cond_none (test x) x (find test xs) none) (all_pass test xs (goes_on (test x) x (find test xs) none))
 
 none_found : (test : ℕ → Bool) (xs : List ℕ) → All (passing test) xs → find test xs ≡ None
 unfolding passing

@@ -1,5 +1,6 @@
 //! The checks of an access, in their order.
 ghost use Rattle.std.specs.Prelude.{◌≡◌, ◌==◌, None, true, false, ℕ, Bool, List};
+ghost use Rattle.std.specs.Option.{option_or};
 ghost use Rattle.paged_memory.specs.Accesses.{need_of};
 ghost use Rattle.mem_access.specs.Checks.{is_shared, lacks, access_fault, sp_fault, shared_fault};
 ghost use Rattle.mem_access.specs.Checks.{read_fault, write_fault};
@@ -44,7 +45,7 @@ impl<'a> Check for Permitted<'a> {
 
 /// That SP is a multiple of 16, where it is the base.
 #[inline]
-fn sp_fault(rn: u8, s: &Scalars) -> Option<Exception>
+pub fn sp_fault(rn: u8, s: &Scalars) -> Option<Exception>
     ensures { (writes : Bool) (bytes : List ℕ) → result ≡ sp_fault (at_base rn writes bytes) s.now }
 {
     if rn == 31 && s.sp % 16 != 0 {
@@ -105,7 +106,18 @@ pub fn load_fault<B: Bytes>(bytes: &B, rn: u8, s: &Scalars, pages: &Pages) -> Op
     )
 }
 
-/// The same of an access that writes them.
+/// The exception of the first check that fails of those that look at no page.
+#[inline]
+pub fn place_fault<B: Bytes>(bytes: &B, rn: u8, s: &Scalars) -> Option<Exception>
+    requires { B.can bytes.now }
+    ensures { (writes : Bool) → result
+        ≡ option_or (sp_fault (at_base rn writes (B.addresses bytes.now)) s.now)
+        (shared_fault (at_base rn writes (B.addresses bytes.now))) }
+{
+    first_of(sp_fault(rn, s), shared_fault(bytes))
+}
+
+/// The same as `load_fault`, of an access that writes the bytes.
 #[inline]
 pub fn store_fault<B: Bytes>(bytes: &B, rn: u8, s: &Scalars, pages: &Pages) -> Option<Exception>
     requires { B.can bytes.now }

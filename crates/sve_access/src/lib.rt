@@ -10,6 +10,7 @@ mod loads;
 mod places;
 mod stores;
 mod transfers;
+mod within_page;
 
 pub use addresses::size_of;
 pub use checks::load_fault;

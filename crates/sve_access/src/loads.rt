@@ -1,5 +1,5 @@
 //! Loads of the elements of a vector.
-ghost use Rattle.std.specs.Prelude.{◌≡◌, ◌+◌, ◌*◌, ◌/◌, ◌%◌, ◌^◌, ◌<◌, ◌≤◌, true, None, length};
+ghost use Rattle.std.specs.Prelude.{◌≡◌, ◌+◌, ◌*◌, ◌/◌, ◌%◌, ◌^◌, ◌<◌, ◌≤◌, true, false, None, length};
 ghost use Rattle.std.specs.Prelude.{if◌then◌else◌};
 ghost use Rattle.std.specs.List.{find};
 ghost use Rattle.paged_memory.specs.Memory.{first_without, run_of};
@@ -7,7 +7,7 @@ ghost use Rattle.mem_access.specs.Checks.{lacks};
 ghost use Rattle.mem_access.specs.Values.{number_at};
 ghost use Rattle.vector_elements.specs.Elements.{element_of, is_active, each_element, each_or_zero};
 ghost use Rattle.vector_elements.specs.Numbers.{bytes_in};
-ghost use Rattle.sve_access.specs.Contiguous.{memory_size, element_size, loaded};
+ghost use Rattle.sve_access.specs.Contiguous.{memory_size, element_size, is_signed, loaded};
 ghost use Rattle.sve_access.specs.Elements.{element_run, element_addresses};
 
 use crate::addresses::{access_size, element_size, loaded, memory_size};
@@ -15,6 +15,7 @@ use crate::elements::Elements;
 use mem_access::read_number;
 use paged_memory::Pages;
 use sm_types::LoadType;
+use std::simd::prelude::*;
 use vector_elements::{Change, Size, are_active, change_each, change_marked_or_zero, element};
 
 /// The element that a load makes of the bytes at an address, which can be read.
@@ -95,8 +96,35 @@ fn load_all_known(kind: LoadType, z: &mut [u8], bytes: &[u8])
     change_each(&OfBytes { kind, bytes }, element_size(kind), z);
 }
 
-/// Loads all elements of a vector from their bytes. With a loop for each load.
-fn load_all(kind: LoadType, z: &mut [u8], bytes: &[u8])
+/// Copies the bytes of a vector; those of one of 16 bytes as one.
+#[inline(always)]
+fn copy_bytes(z: &mut [u8], bytes: &[u8])
+    requires { length bytes.now ≡ length z.old }
+    ensures { z.new ≡ bytes.now }
+{
+    if z.len() == 16 {
+        u8x16::from_slice(bytes).copy_to_slice(z);
+    } else {
+        z.copy_from_slice(bytes);
+    }
+}
+
+/// Loads all elements of a vector from their bytes, where each is as long in memory as in the register.
+#[inline(always)]
+fn copy_all(kind: LoadType, z: &mut [u8], bytes: &[u8])
+    requires same { memory_size kind ≡ element_size kind }
+    requires unsigned { is_signed kind ≡ false }
+    requires whole { length z.old % bytes_in (element_size kind) ≡ 0 }
+    requires bytes { length bytes.now
+        ≡ length z.old / bytes_in (element_size kind) * bytes_in (memory_size kind) }
+    ensures { z.new ≡ each_element (bytes_in (element_size kind)) z.old (λ i old.
+        loaded kind (element_of (bytes_in (memory_size kind)) bytes.now i)) }
+{
+    copy_bytes(z, bytes);
+}
+
+/// Loads all elements of a vector from their bytes. With a loop for each load that extends.
+pub fn load_all(kind: LoadType, z: &mut [u8], bytes: &[u8])
     requires whole { length z.old % bytes_in (element_size kind) ≡ 0 }
     requires bytes { length bytes.now
         ≡ length z.old / bytes_in (element_size kind) * bytes_in (memory_size kind) }
@@ -104,22 +132,22 @@ fn load_all(kind: LoadType, z: &mut [u8], bytes: &[u8])
         loaded kind (element_of (bytes_in (memory_size kind)) bytes.now i)) }
 {
     match kind {
-        LoadType::ByteToB => load_all_known(LoadType::ByteToB, z, bytes),
+        LoadType::ByteToB => copy_all(LoadType::ByteToB, z, bytes),
         LoadType::ByteToH => load_all_known(LoadType::ByteToH, z, bytes),
         LoadType::ByteToS => load_all_known(LoadType::ByteToS, z, bytes),
         LoadType::ByteToD => load_all_known(LoadType::ByteToD, z, bytes),
         LoadType::SignedWordToD => load_all_known(LoadType::SignedWordToD, z, bytes),
-        LoadType::HalfwordToH => load_all_known(LoadType::HalfwordToH, z, bytes),
+        LoadType::HalfwordToH => copy_all(LoadType::HalfwordToH, z, bytes),
         LoadType::HalfwordToS => load_all_known(LoadType::HalfwordToS, z, bytes),
         LoadType::HalfwordToD => load_all_known(LoadType::HalfwordToD, z, bytes),
         LoadType::SignedHalfwordToD => load_all_known(LoadType::SignedHalfwordToD, z, bytes),
         LoadType::SignedHalfwordToS => load_all_known(LoadType::SignedHalfwordToS, z, bytes),
-        LoadType::WordToS => load_all_known(LoadType::WordToS, z, bytes),
+        LoadType::WordToS => copy_all(LoadType::WordToS, z, bytes),
         LoadType::WordToD => load_all_known(LoadType::WordToD, z, bytes),
         LoadType::SignedByteToD => load_all_known(LoadType::SignedByteToD, z, bytes),
         LoadType::SignedByteToS => load_all_known(LoadType::SignedByteToS, z, bytes),
         LoadType::SignedByteToH => load_all_known(LoadType::SignedByteToH, z, bytes),
-        LoadType::DoublewordToD => load_all_known(LoadType::DoublewordToD, z, bytes),
+        LoadType::DoublewordToD => copy_all(LoadType::DoublewordToD, z, bytes),
     }
 }
 

@@ -1,9 +1,10 @@
 //! The contiguous loads and stores.
-ghost use Rattle.std.specs.Prelude.{◌≡◌, ◌≢◌, ◌*◌, ◌≤◌, ◌<◌, false, true, Err, Some, None, length, take};
+ghost use Rattle.std.specs.Prelude.{◌≡◌, ◌≢◌, ◌*◌, ◌/◌, ◌%◌, ◌≤◌, ◌<◌, false, true, Ok, Err, Some, None};
+ghost use Rattle.std.specs.Prelude.{length, take};
 ghost use Rattle.std.specs.List.{find};
 ghost use Rattle.sm_types.specs.declared.vector.VectorAccess.TheVariants as form;
 ghost use Rattle.sve_table.specs.Ranges.{IsVectorAccess};
-ghost use Rattle.vector_elements.specs.Elements.{each_or_zero};
+ghost use Rattle.vector_elements.specs.Elements.{element_of, each_element, each_or_zero};
 ghost use Rattle.vector_elements.specs.Numbers.{bytes_in};
 ghost use Rattle.sve_vectors.specs.State.{length_of, with_vector};
 ghost use Rattle.paged_memory.specs.Memory.{first_without, run_of};
@@ -21,16 +22,17 @@ ghost use Rattle.sve_access.specs.Registers.{IsRegister, register_access, regist
 ghost use Rattle.sve_access.specs.Registers.{with_register};
 
 use crate::addresses::{element_size, first_address, memory_size, multiple_from, size_of};
-use crate::checks::{load_fault, store_fault};
+use crate::checks::{load_fault, place_fault, store_fault};
 use crate::elements::Elements;
-use crate::loads::load_elements;
+use crate::loads::{load_all, load_elements};
 use crate::places::Run;
 use crate::stores::{own_elements, write_elements};
+use crate::within_page::{whole_elements, whole_run};
 use mem_access::{AccessStop, write_bytes};
 use paged_memory::Pages;
 use scalar_exec::read_x_or_sp;
 use sm_types::{Elem, LoadType, Scalars, VectorAccess, VectorOffset};
-use sve_vectors::{Vectors, read_p};
+use sve_vectors::{Vectors, read_p, write_p, write_z};
 
 /// Copies the bytes of a predicate to the first bytes of a room, and says how many there are.
 #[inline]
@@ -67,14 +69,14 @@ fn load_z(kind: LoadType, elements: &Elements, vectors: &mut Vectors, zt: u8, pa
     load_elements(kind, elements, vectors.z_mut(zt), pages);
 }
 
-/// Loads the active elements of a vector, if no check fails.
-#[inline]
+/// The same as `transfer_load`, for any load.
+#[inline(never)]
 #[tactic(auto, unfolding(
 // The access, the registers after it and the memory.
 crate::specs::After::access_of, crate::specs::After::registers_after, crate::specs::After::stored),
 // Where its bytes can be read.
 using(crate::proofs::Faults::can_read))]
-fn transfer_load(
+fn load_checked(
     kind: LoadType,
     offset: &VectorOffset,
     pg: u8,
@@ -107,6 +109,84 @@ fn transfer_load(
             load_z(kind, &elements, vectors, zt, pages);
             Ok(())
         }
+    }
+}
+
+/// Loads all elements of a vector from their bytes.
+#[inline(always)]
+#[tactic(auto, using(sve_vectors::proofs::Whole::vector_whole))]
+fn load_whole_z(kind: LoadType, vectors: &mut Vectors, zt: u8, bytes: &[u8])
+    requires zt { zt < 32 }
+    requires whole { length_of vectors.old % bytes_in (element_size kind) ≡ 0 }
+    requires bytes { length bytes.now
+        ≡ length_of vectors.old / bytes_in (element_size kind) * bytes_in (memory_size kind) }
+    ensures value { vectors.new ≡ with_vector vectors.old zt (each_element (bytes_in (element_size kind))
+        (vector_at vectors.old.registers zt)
+        (λ i old. loaded kind (element_of (bytes_in (memory_size kind)) bytes.now i))) }
+    ensures long { length (vector_at vectors.old.registers zt) ≡ length_of vectors.old }
+{
+    load_all(kind, vectors.z_mut(zt), bytes);
+}
+
+/// Loads the elements of a vector, where all are active, no check fails and their bytes lie in one page; says
+/// whether it did.
+#[inline(always)]
+fn load_whole(
+    kind: LoadType,
+    offset: &VectorOffset,
+    pg: u8,
+    rn: u8,
+    zt: u8,
+    s: &Scalars,
+    vectors: &mut Vectors,
+    pages: &Pages,
+) -> bool
+    requires { IsVectorAccess (form.Load kind offset.now pg rn zt) }
+    ensures made { result ≡ true → IsMade (form.Load kind offset.now pg rn zt) s.now
+        vectors.old vectors.new pages.now pages.now (Ok tt) }
+    ensures left { result ≡ false → vectors.new ≡ vectors.old }
+    ensures lengths { KeepsLengths vectors.old vectors.new }
+{
+    let (memory, element) = (memory_size(kind), element_size(kind));
+    let base = read_x_or_sp(s, rn);
+    let start = first_address(offset, memory, element, vectors.length(), base, s);
+    let elements = Elements {
+        start,
+        memory,
+        element,
+        pg: read_p(vectors, pg),
+    };
+    match whole_elements(&elements, rn, s, pages) {
+        Some(bytes) => {
+            load_whole_z(kind, vectors, zt, bytes);
+            true
+        }
+        None => false,
+    }
+}
+
+/// Loads the active elements of a vector, if no check fails.
+#[inline]
+fn transfer_load(
+    kind: LoadType,
+    offset: &VectorOffset,
+    pg: u8,
+    rn: u8,
+    zt: u8,
+    s: &Scalars,
+    vectors: &mut Vectors,
+    pages: &Pages,
+) -> Result<(), AccessStop>
+    requires { IsVectorAccess (form.Load kind offset.now pg rn zt) }
+    ensures made { IsMade (form.Load kind offset.now pg rn zt) s.now
+        vectors.old vectors.new pages.now pages.now result }
+    ensures room { result ≢ Err AccessStop.Memory }
+    ensures lengths { KeepsLengths vectors.old vectors.new }
+{
+    if load_whole(kind, offset, pg, rn, zt, s, vectors, pages) {
+        Ok(())
+    } else {
+        load_checked(kind, offset, pg, rn, zt, s, vectors, pages)
     }
 }
 
@@ -277,6 +357,19 @@ impl Register {
         }
     }
 
+    /// Writes its bytes.
+    #[inline]
+    fn put(self, bytes: &[u8], vectors: &mut Vectors)
+        requires register { IsRegister self }
+        requires long { length bytes.now ≡ register_size self (length_of vectors.old) }
+        ensures { vectors.new ≡ with_register vectors.old self bytes.now }
+    {
+        match self {
+            Register::Vector(zt) => write_z(vectors, zt, bytes),
+            Register::Predicate(pt) => write_p(vectors, pt, bytes),
+        }
+    }
+
     /// Fills it with the bytes from an address on, which can be read.
     #[inline]
     #[tactic(auto, using(
@@ -296,14 +389,14 @@ impl Register {
     }
 }
 
-/// Loads a register, if no check fails.
-#[inline]
+/// The same as `load_register`, for any load.
+#[inline(never)]
 #[tactic(auto, using(
 // What the instruction accesses, and the lengths after it.
 crate::proofs::Registers::access_is, crate::proofs::Registers::lengths_kept,
 // Where its bytes can be read.
 crate::proofs::Faults::can_read_run))]
-fn load_register(
+fn load_register_checked(
     register: Register,
     times: i32,
     rn: u8,
@@ -328,6 +421,33 @@ fn load_register(
     }
 }
 
+/// Loads a register, if no check fails.
+#[inline]
+fn load_register(
+    register: Register,
+    times: i32,
+    rn: u8,
+    s: &Scalars,
+    vectors: &mut Vectors,
+    pages: &Pages,
+) -> Result<(), AccessStop>
+    requires register { IsRegister register }
+    requires rn { rn < 32 }
+    ensures made { IsMade (register_access register false times rn) s.now
+        vectors.old vectors.new pages.now pages.now result }
+    ensures room { result ≢ Err AccessStop.Memory }
+    ensures lengths { KeepsLengths vectors.old vectors.new }
+{
+    let run = run_from(read_x_or_sp(s, rn), times, register.size(vectors));
+    match whole_run(&run, rn, s, pages) {
+        Some(bytes) => {
+            register.put(bytes, vectors);
+            Ok(())
+        }
+        None => load_register_checked(register, times, rn, s, vectors, pages),
+    }
+}
+
 /// Stores bytes from an address on, if no check fails.
 #[inline]
 pub fn store_run(
@@ -347,7 +467,7 @@ pub fn store_run(
     ensures room { AreOwned pages.old run.now.address (length bytes.now) → result ≢ Err AccessStop.Memory }
     ensures owned { Owns raised_by (run_of run.now.address run.now.size) pages.old pages.new result }
 {
-    match store_fault(run, rn, s, pages) {
+    match place_fault(run, rn, s) {
         Some(exception) => Err(AccessStop::Raise(exception)),
         None => write_bytes(pages, run.address, bytes),
     }

@@ -4,6 +4,7 @@ use Rattle.std.proofs.Common.{Bool, nat_lt, nat_le, lt-ltb, le-ltb, ltb-true, lt
 use Rattle.std.proofs.lemmas.Bool.{cases_lt, cond-true, cond-false, cond_both, le-leb, lt-leb}
 use Rattle.std.proofs.lemmas.Int.{ints}
 use Rattle.std.specs.Simd.Lanes.{zip2, sel_l, Each1}
+use Rattle.plain_lemmas.proofs.Numbers.{pos_sub-le, pos_sub-lt}
 use Rattle.sm_types.specs.declared.vector.VectorArithmeticOp.TheVariants.{Sqadd, Sqsub}
 use Rattle.vector_elements.specs.declared.size.Size.{Size}
 use Rattle.vector_elements.specs.declared.size.Size.TheVariants.{B, H, S, D}
@@ -62,12 +63,9 @@ low : (size : Size) (x : ℕ) → x < half_of size → signed_of size x ≡ pos 
 unfolding signed_of
 low size x l = cond-true _ _ _ (lt-ltb x (half_of size) l)
 
-less : (a b : ℕ) → a < b → pos a -ℤ pos b ≡ negsuc (b - a - 1)
-less a b lt = grind (arith, ints)
-
 high : (size : Size) (x : ℕ) → half_of size ≤ x → x < range_of size → signed_of size x ≡ negsuc (range_of size - x - 1)
 unfolding signed_of
-high size x g p = cond-false _ _ _ (le-ltb x (half_of size) g) ∙ less x (range_of size) p
+high size x g p = cond-false _ _ _ (le-ltb x (half_of size) g) ∙ pos_sub-lt x (range_of size) p
 
 lesser : (s m : ℕ) → cond (nat_lt s m) s m ≡ min s m
 lesser s m = cond_both (nat_lt s m) s m (λ t. t ≡ min s m) (λ e. omega (arith, ltb-true s m e)) (λ e. omega (arith, ltb-false s m e))
@@ -152,9 +150,6 @@ near size x y z p q k l is_up is_down =
           ∙ sym (ap (λ z. wrapped size (signed_saturated size z)) (is_up over))
     ]
 
-less_up : (x y : ℕ) → y ≤ x → pos x -ℤ pos y ≡ pos (x - y)
-less_up x y g = grind (arith, ints)
-
 less_negative : (r x y : ℕ) → x < r → negsuc (r - x - 1) -ℤ pos y ≡ negsuc (r - x - 1 + y)
 less_negative r x y p = grind (arith, ints)
 
@@ -190,7 +185,7 @@ difference_lane size x y p q =
     lesser _ _ ∙ ap (λ s. min s (half_of size - 1)) (once size _ (omega arith) ∙ v) ∙ sym (up size _)
     ∙ sym (ap₂ value (low size x xl) (high size y yg q)))
     (λ xl yl.
-    near size x y _ p q (omega arith) (omega arith) (less_up x y) (less x y) ∙ sym (ap₂ value (low size x xl) (low size y yl)))
+    near size x y _ p q (omega arith) (omega arith) (pos_sub-le x y) (pos_sub-lt x y) ∙ sym (ap₂ value (low size x xl) (low size y yl)))
 
 sums : (size : Size) (n : ℕ) (a b : List ℕ) → length a ≡ n → Each1 (λ x. x < range_of size) a → Each1 (λ x. x < range_of size) b
     → sel_l (zip2 nat_le (replicate n (half_of size)) a)

@@ -4,6 +4,7 @@ use Rattle.std.proofs.Common.{if◌then◌else◌}
 use Rattle.std.proofs.Common.{refl, sym, ◌∙◌, length-drop}
 use Rattle.std.proofs.lemmas.Grind.{common_steps}
 use Rattle.std.specs.Simd.Lanes.{number_l}
+use Rattle.plain_lemmas.proofs.Lists.{take_within}
 use Rattle.vector_elements.specs.declared.size.Size.{Size}
 use Rattle.vector_elements.specs.declared.size.Size.TheVariants.{B, H, S, D}
 use Rattle.vector_elements.specs.Elements.{element_of}
@@ -18,14 +19,11 @@ within_count H i n below = omega (arith, below)
 within_count S i n below = omega (arith, below)
 within_count D i n below = omega (arith, below)
 
-read_front : (e at : ℕ) (xs ys : List ℕ) → at + e ≤ length xs → take e (drop at (xs ++ ys)) ≡ take e (drop at xs)
-read_front e at xs ys room = grind (arith, common_steps)
-
 -- an element of the first of two vectors in a row
 pub of_first : (size : Size) (n m : List ℕ) (i : ℕ) → i < length n / bytes_in size
     → element_of (bytes_in size) (n ++ m) i ≡ element_of (bytes_in size) n i
 unfolding element_of
-of_first size n m i below = ap (number_l 256) (read_front (bytes_in size) (bytes_in size * i) n m (within_count size i (length n) below))
+of_first size n m i below = ap (number_l 256) (take_within (bytes_in size) (bytes_in size * i) n m (within_count size i (length n) below))
 
 passed : (size : Size) (n i : ℕ) → n % bytes_in size ≡ 0 → n / bytes_in size ≤ i
     → bytes_in size * i ≡ n + bytes_in size * (i - n / bytes_in size)

@@ -11,6 +11,7 @@ use Rattle.std.proofs.lemmas.List.Elements.{filter-append}
 use Rattle.std.proofs.lemmas.Grind.{fold-append}
 use Rattle.std.proofs.lemmas.Nat.{or_lt, xor_lt}
 use Rattle.std.specs.Simd.Lanes.{digits_l}
+use Rattle.plain_lemmas.proofs.Numbers.{pos_add_negsuc-le, pos_add_negsuc-lt}
 use Rattle.vector_elements.specs.declared.size.Size.{Size}
 use Rattle.vector_elements.specs.declared.size.Size.TheVariants.{B, H, S, D}
 use Rattle.vector_elements.specs.Elements.{element_of, is_active}
@@ -68,6 +69,18 @@ pub none-yet : (size : Size) (pg bytes : List ℕ) → map (element_of (bytes_in
 unfolding active_places
 none-yet size pg bytes = refl
 
+-- one of two numbers, each of which fits
+pub chosen_fits : (test : Bool) (x y chosen n : ℕ) → chosen ≡ (if test then x else y) → x < n → y < n → chosen < n
+chosen_fits true x y chosen n is first other = omega (arith, is, first)
+chosen_fits false x y chosen n is first other = omega (arith, is, other)
+
+-- an element that is not active is not joined
+pub joined_where : (gives : List ℕ → ℕ) (xs : List ℕ) (active : Bool) (x joined total chosen : ℕ)
+    → chosen ≡ (if active then joined else total) → total ≡ gives xs → joined ≡ gives (xs ++ x ∷ [])
+    → chosen ≡ gives (xs ++ (if active then x ∷ [] else []))
+joined_where gives xs true x joined total chosen is so_far more = is ∙ more
+joined_where gives xs false x joined total chosen is so_far more = is ∙ so_far ∙ ap gives (sym (append-nil xs))
+
 -- the last active place is the last that was looked at
 pub last_found : (size : Size) (pg : List ℕ) (none k : ℕ) → is_active (bytes_in size) pg k ≡ true
     → last_or none (active_places size pg (k + 1)) ≡ k
@@ -93,17 +106,11 @@ place_fits H k count n lt room = omega (arith, lt, room)
 place_fits S k count n lt room = omega (arith, lt, room)
 place_fits D k count n lt room = omega (arith, lt, room)
 
-above : (a b : ℕ) → b < a → pos a +ℤ negsuc b ≡ pos (a - b - 1)
-above a b lt = grind (arith, ints)
-
-below : (a b : ℕ) → a ≤ b → pos a +ℤ negsuc b ≡ negsuc (b - a)
-below a b le = grind (arith, ints)
-
 mixed : (a b : ℕ) → wrapped D (pos a +ℤ negsuc b) ≡ (a % 2 ^ 64 + (2 ^ 64 - 1 - b % 2 ^ 64)) % 2 ^ 64
 unfolding wrapped
 mixed a b = elim (cases_lt b a) [
-  | inl lt ↦ ap (wrapped D) (above a b lt) ∙ omega (arith, lt)
-  | inr le ↦ ap (wrapped D) (below a b le) ∙ omega (arith, le)
+  | inl lt ↦ ap (wrapped D) (pos_add_negsuc-lt a b lt) ∙ omega (arith, lt)
+  | inr le ↦ ap (wrapped D) (pos_add_negsuc-le a b le) ∙ omega (arith, le)
 ]
 
 -- a sum with signs, modulo 2 ^ 64

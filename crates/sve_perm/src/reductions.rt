@@ -1,8 +1,9 @@
 //! Reductions of a vector to one number.
-ghost use Rattle.std.specs.Prelude.{◌≡◌, ℕ, ◌+◌, ◌*◌, ◌%◌, ◌≤◌, ◌<◌, List, [], ◌∷◌, ◌++◌, if◌then◌else◌};
+ghost use Rattle.std.specs.Prelude.{◌≡◌, ℕ, ◌+◌, ◌*◌, ◌≤◌, ◌<◌, List, [], ◌∷◌, ◌++◌, if◌then◌else◌};
 ghost use Rattle.std.specs.Prelude.{length};
 ghost use Rattle.vector_elements.specs.declared.size.Size.{Size as ElementSize};
-ghost use Rattle.vector_elements.specs.Numbers.{bytes_in, range_of};
+ghost use Rattle.vector_elements.specs.Active.{AreActive};
+ghost use Rattle.vector_elements.specs.Numbers.{range_of};
 ghost use Rattle.sve_perm.specs.Active.{active_elements};
 ghost use Rattle.sve_perm.specs.Reduce.{result_size, reduced};
 
@@ -11,7 +12,7 @@ use crate::operations::{
     AllOnes, AnyOnes, Greatest, Least, OddOnes, SignedGreatest, SignedLeast, SignedSum, Sum,
 };
 use sm_types::ReductionOp;
-use vector_elements::{Size, bit, element};
+use vector_elements::{Size, are_active, bit, element, expand, is_marked};
 
 /// What some elements make together.
 pub trait Reduction: Copy {
@@ -35,7 +36,15 @@ pub trait Reduction: Copy {
         ensures fits { result < range_of (wide self size) };
 }
 
-/// The number with one element more, if that is active.
+/// One of two numbers, without a branch in the loop that asks.
+#[inline(always)]
+fn choose(test: bool, yes: u64, no: u64) -> u64
+    ensures { result ≡ (if test then yes else no) }
+{
+    if test { yes } else { no }
+}
+
+/// The number with one element more, if that is active. It is made in either case, and then chosen.
 #[inline(always)]
 fn join_where<R: Reduction>(reduction: R, size: Size, total: u64, x: u64, active: bool) -> u64
     requires total { total < range_of (R.wide reduction size) }
@@ -44,16 +53,31 @@ fn join_where<R: Reduction>(reduction: R, size: Size, total: u64, x: u64, active
         result ≡ R.gives reduction size (xs ++ (if active then x ∷ [] else [])) }
     ensures fits { result < range_of (R.wide reduction size) }
 {
-    if active {
-        reduction.join(size, total, x)
-    } else {
-        total
-    }
+    choose(active, reduction.join(size, total, x), total)
 }
 
-/// What the active elements of a vector make together.
+/// What the active elements of a vector make together, by a mask of the predicate.
 #[inline(always)]
-fn reduce_of_size<R: Reduction>(reduction: R, size: Size, pg: &[u8], n: &[u8]) -> u64
+fn reduce_marked<R: Reduction>(reduction: R, size: Size, pg: &[u8], n: &[u8]) -> u64
+    requires bits { length n.now ≡ 8 * length pg.now }
+    requires small { length n.now ≤ 256 }
+    ensures value { result ≡ R.gives reduction size (active_elements size pg.now n.now) }
+    ensures fits { result < range_of (R.wide reduction size) }
+{
+    let mut mask = [0u8; 256];
+    expand(pg, &mut mask);
+    let mut total = reduction.neutral(size);
+    for i in 0..count(size, n) {
+        let x = element(n, size, i);
+        total = join_where(reduction, size, total, x, is_marked(&mask, size, i));
+    }
+    total
+}
+
+/// What the active elements of a vector of any length make together, one after the other.
+#[cold]
+#[inline(never)]
+fn reduce_each<R: Reduction>(reduction: R, size: Size, pg: &[u8], n: &[u8]) -> u64
     requires bits { length n.now ≡ 8 * length pg.now }
     ensures value { result ≡ R.gives reduction size (active_elements size pg.now n.now) }
     ensures fits { result < range_of (R.wide reduction size) }
@@ -67,13 +91,47 @@ fn reduce_of_size<R: Reduction>(reduction: R, size: Size, pg: &[u8], n: &[u8]) -
     total
 }
 
-/// The same, with a loop for each size.
+/// What all elements of a vector make together.
+#[inline(always)]
+fn reduce_all<R: Reduction>(reduction: R, size: Size, pg: &[u8], n: &[u8]) -> u64
+    requires active { AreActive size pg.now }
+    requires bits { length n.now ≡ 8 * length pg.now }
+    ensures value { result ≡ R.gives reduction size (active_elements size pg.now n.now) }
+    ensures fits { result < range_of (R.wide reduction size) }
+{
+    let mut total = reduction.neutral(size);
+    for i in 0..count(size, n) {
+        let x = element(n, size, i);
+        total = reduction.join(size, total, x);
+    }
+    total
+}
+
+/// What the active elements of a vector make together. Mostly all are active.
+#[inline(always)]
+fn reduce_of_size<R: Reduction>(reduction: R, size: Size, pg: &[u8], n: &[u8]) -> u64
+    requires bits { length n.now ≡ 8 * length pg.now }
+    requires small { length n.now ≤ 256 }
+    ensures value { result ≡ R.gives reduction size (active_elements size pg.now n.now) }
+    ensures fits { result < range_of (R.wide reduction size) }
+{
+    if are_active(pg, size) {
+        reduce_all(reduction, size, pg, n)
+    } else {
+        reduce_marked(reduction, size, pg, n)
+    }
+}
+
+/// The same for a vector of any length, with loops for each size.
 #[inline]
 fn reduce_by<R: Reduction>(reduction: R, size: Size, pg: &[u8], n: &[u8]) -> u64
     requires bits { length n.now ≡ 8 * length pg.now }
     ensures value { result ≡ R.gives reduction size (active_elements size pg.now n.now) }
     ensures fits { result < range_of (R.wide reduction size) }
 {
+    if n.len() > 256 {
+        return reduce_each(reduction, size, pg, n);
+    }
     match size {
         Size::B => reduce_of_size(reduction, Size::B, pg, n),
         Size::H => reduce_of_size(reduction, Size::H, pg, n),

@@ -4,13 +4,14 @@ use Rattle.std.proofs.Common.{slice_get, Option, Some, None, subst}
 use Rattle.std.specs.List.{list_all}
 use Rattle.std.specs.Prelude.{option_map}
 use Rattle.std.proofs.lemmas.Bool.{both_ways}
+use Rattle.plain_lemmas.proofs.Lists.{list_all-get}
 use Rattle.insn_forms.specs.declared.line.Line.{Line}
 use Rattle.insn_forms.specs.Fields.{is_field, list_of, mask_of}
 use Rattle.insn_forms.specs.Forms.{is_form, fills}
 use Rattle.insn_forms.specs.Tables.{HasAtMostOneLine}
 use Rattle.insn_forms.proofs.Deciding.{some_is}
 use Rattle.insn_forms.proofs.Lines.{same_field, same_fields, one_list, unequal}
-use Rattle.insn_forms.proofs.Laws.{all-get, suits, pairwise, one_place}
+use Rattle.insn_forms.proofs.Laws.{suits, pairwise, one_place}
 use Rattle.insn_forms.proofs.Ways.{take_of, field_of_slot, eight, keeps}
 use Rattle.insn_forms.proofs.Tables.{IsTable, differ, not_alike}
 use Rattle.sm_types.specs.declared.vector as types
@@ -170,7 +171,7 @@ all_formats = refl
 pub row-format : (i : ℕ) (r : Row) → slice_get VECTOR_LINES i ≡ Some r → list_of r.fields ≡ format r.operation
 row-format i r g =
     one_list (list_of r.fields) (format r.operation)
-    (all-get (λ (r : Row). same_fields (list_of r.fields) (format r.operation)) VECTOR_LINES i r all_formats g)
+    (list_all-get (λ (r : Row). same_fields (list_of r.fields) (format r.operation)) VECTOR_LINES i r all_formats g)
 
 -- ---- no two rows have the same fixed bits
 pub all_unequal : pairwise unequal VECTOR_LINES ≡ true

@@ -1,12 +1,16 @@
 -- Elements one after another.
-use Rattle.std.proofs.Common.{◌≡◌, ℕ, zero, suc, ◌+◌, ◌*◌, ◌/◌, ◌%◌, ◌<◌, ◌≤◌, List, ◌++◌, length, take, drop, ap}
+use Rattle.std.proofs.Common.{◌≡◌, ℕ, zero, suc, ◌+◌, ◌*◌, ◌/◌, ◌%◌, ◌<◌, ◌≤◌, List, [], ◌∷◌, ◌++◌, length, take, drop, ap, ap₂, refl, subst}
+use Rattle.std.proofs.Common.{if◌then◌else◌}
 use Rattle.std.proofs.Common.{◌∙◌, sym, append_assoc, arith, length-append, inl, inr}
 use Rattle.std.proofs.lemmas.Bool.{cases_lt}
 use Rattle.std.proofs.lemmas.List.{append-nil, drop_at, drop-drop, take-append-drop}
 use Rattle.std.proofs.lemmas.List.{take_all, drop_all, length-drop, take-append-le, drop-append-le}
 use Rattle.std.proofs.Math.Nat.{mul-le-mul_left}
 use Rattle.std.specs.List.{concat}
+use Rattle.vector_elements.specs.declared.size.Size.{Size}
+use Rattle.vector_elements.specs.Active.{AreActive}
 use Rattle.vector_elements.specs.Elements.{listed}
+use Rattle.vector_elements.specs.Numbers.{bytes_in}
 use Rattle.tile_ops.specs.Slices.{element_bytes}
 use Rattle.tile_ops.specs.Moves.{merged, chosen_element}
 use Rattle.tile_ops.specs.Laws.{MergesElements}
@@ -73,3 +77,22 @@ unfolding merged
 merges_elements e i pg new old same below =
     element-joined e (chosen_element e pg new old) (length old / e) i
     (λ k lt. let room = within (length old) e k lt in length-chosen e pg new old k (omega (arith, room, same)) room) below
+
+listed_alike : (f g : ℕ → List ℕ) (n : ℕ) → ((i : ℕ) → i < n → f i ≡ g i) → listed f n ≡ listed g n
+unfolding listed
+listed_alike f g zero same = refl
+listed_alike f g (suc n) same =
+    ap₂ (λ xs x. xs ++ x ∷ []) (listed_alike f g n (λ i below. same i (omega arith))) (same n (omega arith))
+
+-- where all elements are active, all are those of the first vector
+pub all_merged : (size : Size) (pg new old : List ℕ) → AreActive size pg → length new ≡ length old → length old ≡ 8 * length pg
+    → length old % bytes_in size ≡ 0 → new ≡ merged (bytes_in size) pg new old
+unfolding merged
+all_merged size pg new old active long bits whole =
+    let e = bytes_in size in
+    let n = length old / e in
+    sym (ap concat (listed_alike (chosen_element e pg new old) (element_bytes e new) n
+    (λ i below.
+    ap (λ b. if b then element_bytes e new i else element_bytes e old i)
+    (active i (subst (λ (k : ℕ). i < k / e) bits below))))
+    ∙ all_elements e new (length old) long whole)

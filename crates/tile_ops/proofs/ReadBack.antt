@@ -5,9 +5,9 @@ use Rattle.std.proofs.Common.{◌∙◌, sym, arith, inl, inr}
 use Rattle.std.proofs.lemmas.Bool.{cases_lt, cond-true, cond-false}
 use Rattle.std.proofs.lemmas.List.{append_assoc, take_at, drop_at, length-take-le, get_or-set_same}
 use Rattle.std.proofs.lemmas.List.{get_or-set_other, length-set, take-append-drop, drop-drop, length-append}
-use Rattle.std.proofs.lemmas.Grind.{common_steps}
 use Rattle.std.proofs.Math.Nat.{mul-le-mul_left}
 use Rattle.std.specs.List.{concat}
+use Rattle.plain_lemmas.proofs.Lists.{take_within}
 use Rattle.vector_elements.specs.Elements.{listed}
 use Rattle.tile_ops.specs.declared.slices.SliceAt.{SliceAt}
 use Rattle.za_array.specs.Array.{IsSquare}
@@ -26,10 +26,6 @@ element-with_element e bytes i x room long =
     let first : length (take (i * e) bytes) ≡ i * e = length-take-le (i * e) bytes (omega arith) in
     ap (take e) (drop_at (take (i * e) bytes) (x ++ back) (i * e) first) ∙ take_at x back e long
 
--- what stands behind the part that is read is not read
-front_alone : (e at : ℕ) (xs ys : List ℕ) → at + e ≤ length xs → take e (drop at (xs ++ ys)) ≡ take e (drop at xs)
-front_alone e at xs ys room = grind (arith, common_steps)
-
 behind : (e : ℕ) (bytes : List ℕ) (i : ℕ) (x : List ℕ) → i * e + e ≤ length bytes → length x ≡ e
     → drop (i * e + e) (with_element e bytes i x) ≡ drop (i * e + e) bytes
 behind e bytes i x room long =
@@ -47,8 +43,8 @@ other-with_element e bytes i k x room long other = elim (cases_lt k i) [
       let least : e * (k + 1) ≤ e * i = mul-le-mul_left e (omega arith) in
       let first : length front ≡ i * e = length-take-le (i * e) bytes (omega arith) in
       let inside : k * e + e ≤ length front = omega (arith, least, first) in
-      front_alone e (k * e) front (x ++ drop (i * e + e) bytes) inside
-      ∙ sym (front_alone e (k * e) front (drop (i * e) bytes) inside)
+      take_within e (k * e) front (x ++ drop (i * e + e) bytes) inside
+      ∙ sym (take_within e (k * e) front (drop (i * e) bytes) inside)
       ∙ ap (λ t. take e (drop (k * e) t)) (take-append-drop (i * e) bytes)
   | inr from ↦
       let least : e * (i + 1) ≤ e * k = mul-le-mul_left e (omega arith) in

@@ -1,13 +1,14 @@
 //! Moves between vectors and slices.
 ghost use Rattle.std.specs.Prelude.{◌≡◌, ◌+◌, ◌*◌, ◌/◌, ◌%◌, ◌<◌, ◌≤◌, length, if◌then◌else◌};
 ghost use Rattle.vector_elements.specs.Elements.{is_active};
+ghost use Rattle.vector_elements.specs.Numbers.{bytes_in};
 ghost use Rattle.sve_vectors.specs.Lengths.{vector_bytes};
 ghost use Rattle.tile_ops.specs.Slices.{IsSliceOf, element_bytes, with_element};
 ghost use Rattle.tile_ops.specs.Moves.{merged, chosen_element, moved_to_tile, moved_to_vector};
 
 use crate::elements::copy_element;
 use crate::slices::{SliceAt, read_slice, write_slice};
-use vector_elements::bit;
+use vector_elements::{Size, are_active, bit};
 use za_array::Za;
 
 /// Makes element `i` that of `new` where it is active.
@@ -38,6 +39,21 @@ fn merge_elements(e: usize, pg: &[u8], new: &[u8], old: &mut [u8])
     }
 }
 
+/// The same for elements that are numbers. Mostly all are active, and then all bytes are copied.
+#[inline(always)]
+fn merge_of_size(size: Size, pg: &[u8], new: &[u8], old: &mut [u8])
+    requires whole { length old.old % bytes_in size ≡ 0 }
+    requires new { length new.now ≡ length old.old }
+    requires bits { length old.old ≡ 8 * length pg.now }
+    ensures { old.new ≡ merged (bytes_in size) pg.now new.now old.old }
+{
+    if are_active(pg, size) {
+        old.copy_from_slice(new);
+    } else {
+        merge_elements(size.bytes(), pg, new, old);
+    }
+}
+
 /// Makes each active element, of `e` bytes, that of `new`, with a loop for each size; the others stay.
 pub fn merge(e: usize, pg: &[u8], new: &[u8], old: &mut [u8])
     requires some { 0 < e }
@@ -47,10 +63,10 @@ pub fn merge(e: usize, pg: &[u8], new: &[u8], old: &mut [u8])
     ensures { old.new ≡ merged e pg.now new.now old.old }
 {
     match e {
-        1 => merge_elements(1, pg, new, old),
-        2 => merge_elements(2, pg, new, old),
-        4 => merge_elements(4, pg, new, old),
-        8 => merge_elements(8, pg, new, old),
+        1 => merge_of_size(Size::B, pg, new, old),
+        2 => merge_of_size(Size::H, pg, new, old),
+        4 => merge_of_size(Size::S, pg, new, old),
+        8 => merge_of_size(Size::D, pg, new, old),
         _ => merge_elements(e, pg, new, old),
     }
 }

@@ -4,6 +4,7 @@ use Rattle.std.proofs.Common.{Bool, true, false, not, refl, ap, sym, ◌∙◌, 
 use Rattle.std.specs.Int.{bit_at}
 use Rattle.std.proofs.lemmas.Bool.{cases_lt, eqb-true, eq-eqb}
 use Rattle.std.proofs.lemmas.Nat.Bits.{bit_at_and, bit_at-lt, bit_at_ones}
+use Rattle.plain_lemmas.proofs.Tests.{implied}
 use Rattle.vector_elements.specs.declared.size.Size.{Size}
 use Rattle.vector_elements.specs.declared.size.Size.TheVariants.{B, H, S, D}
 use Rattle.vector_elements.specs.Active.{AreActive, HasCommonBits, element_bits}
@@ -57,10 +58,6 @@ all_same H = refl
 all_same S = refl
 all_same D = refl
 
-pub after_or : (a b : Bool) → (not a || b) ≡ true → a ≡ true → b ≡ true
-after_or true b holds is = holds
-after_or false b holds is = absurd (cc)
-
 pub or_from : (a b : Bool) → (a ≡ true → b ≡ true) → (not a || b) ≡ true
 or_from true b from = from refl
 or_from false b from = refl
@@ -72,7 +69,7 @@ tested : (size : Size) (n : ℕ) → n < 256 → (bit_and n (element_bits size) 
 unfolding are_same is_set_at HasElementBits
 tested size n fits holds k below element =
     let all = sym (same _ _ (all_below-at (are_same size) 256 n (all_same size) fits)) ∙ holds in
-    eqb-true _ _ (after_or _ _ (all_below-at (is_set_at size n) 8 k all below) (eq-eqb _ _ element))
+    eqb-true _ _ (implied _ _ (all_below-at (is_set_at size n) 8 k all below) (eq-eqb _ _ element))
 
 holds_if : (size : Size) (n : ℕ) → n < 256 → HasElementBits size n → (bit_and n (element_bits size) == element_bits size) ≡ true
 unfolding are_same is_set_at HasElementBits

@@ -2,10 +2,11 @@
 use Rattle.std.proofs.Common.{◌≡◌, ℕ, zero, suc, ◌+◌, ◌*◌, ◌/◌, ◌%◌, ◌<◌, List, [], ◌∷◌, ◌++◌, length, take, drop, refl, ap}
 use Rattle.std.proofs.Common.{◌∙◌, sym, append_assoc, add-one, arith, length-append, ◌-◌, get_or, inl, inr}
 use Rattle.std.proofs.lemmas.Bool.{cases_lt}
-use Rattle.std.proofs.lemmas.List.{get_or_append_left, get_or-append_right}
+use Rattle.std.proofs.lemmas.List.{get_or_append_left, get_or-append_right, append-nil}
 use Rattle.std.proofs.Math.Seq.{drop-length}
 use Rattle.std.proofs.lemmas.Grind.{common_steps}
 use Rattle.std.specs.Simd.Lanes.{number_l, digits_l}
+use Rattle.plain_lemmas.proofs.Lists.{drop_twice, drop_past}
 use Rattle.vector_elements.specs.declared.size.Size.{Size}
 use Rattle.vector_elements.specs.declared.size.Size.TheVariants.{B, H, S, D}
 use Rattle.vector_elements.specs.Elements.{listed, element_of, bytes_of, each_element}
@@ -51,28 +52,15 @@ bytes-append e (x ∷ xs) ys =
     ap (λ t. digits_l 256 e x ++ t) (bytes-append e xs ys)
     ∙ sym (append_assoc (digits_l 256 e x) (bytes_of e xs) (bytes_of e ys))
 
-drop_whole : {A : Type 0} → (xs ys : List A) (m : ℕ) → drop (length xs + m) (xs ++ ys) ≡ drop m ys
-drop_whole [] ys m = let e : 0 + m ≡ m = omega arith in ap (λ k. drop k ys) e
-drop_whole (x ∷ xs) ys m =
-    let e : length (x ∷ xs) + m ≡ suc (length xs + m) = omega arith in
-    ap (λ k. drop k (x ∷ (xs ++ ys))) e ∙ drop_whole xs ys m
-
-append-nil : {A : Type 0} → (xs : List A) → xs ++ [] ≡ xs
-append-nil [] = refl
-append-nil (x ∷ xs) = ap (λ t. x ∷ t) (append-nil xs)
-
 pub bytes-one : (e x : ℕ) → bytes_of e (x ∷ []) ≡ digits_l 256 e x
 unfolding bytes_of
 bytes-one e x = append-nil (digits_l 256 e x)
 
 pub drop_front : {A : Type 0} → (xs ys : List A) (n m : ℕ) → n ≡ length xs + m → drop n (xs ++ ys) ≡ drop m ys
-drop_front xs ys n m e = ap (λ k. drop k (xs ++ ys)) e ∙ drop_whole xs ys m
+drop_front xs ys n m e = ap (λ k. drop k (xs ++ ys)) e ∙ drop_past xs ys m
 
 pub take_front : {A : Type 0} → (xs ys : List A) (n : ℕ) → n ≡ length xs → take n (xs ++ ys) ≡ xs
 take_front xs ys n e = grind (arith, common_steps)
-
-drop_twice : {A : Type 0} → (xs : List A) (n m k : ℕ) → k ≡ n + m → drop m (drop n xs) ≡ drop k xs
-drop_twice xs n m k e = grind (arith, common_steps)
 
 -- the bytes of the first i values stand before those that are as they were
 pub length-written : (e : ℕ) (f : ℕ → ℕ) (i : ℕ) → length (bytes_of e (listed f i)) ≡ e * i

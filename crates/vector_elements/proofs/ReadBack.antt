@@ -1,11 +1,11 @@
 -- Elements are read back from the bytes that were made of them.
-use Rattle.std.proofs.Common.{◌≡◌, ℕ, zero, suc, ◌+◌, ◌*◌, ◌/◌, ◌%◌, ◌^◌, ◌<◌, ◌≤◌, List, [], ◌∷◌, ◌++◌, length}
+use Rattle.std.proofs.Common.{◌≡◌, ℕ, zero, suc, ◌+◌, ◌*◌, ◌/◌, ◌%◌, ◌^◌, ◌<◌, ◌≤◌, [], ◌∷◌, ◌++◌, length}
 use Rattle.std.proofs.Common.{take, drop, ap, ◌∙◌, sym, arith, inl, inr, subst}
 use Rattle.std.proofs.lemmas.Bool.{cases_lt}
 use Rattle.std.proofs.Math.Arith.{mod-mul}
 use Rattle.std.proofs.Math.Nat.{mod-one, pow-suc, mul-le-mul_left, mul-div_cancel_left}
-use Rattle.std.proofs.lemmas.Grind.{common_steps}
 use Rattle.std.specs.Simd.Lanes.{number_l, digits_l}
+use Rattle.plain_lemmas.proofs.Lists.{take_within}
 use Rattle.vector_elements.specs.Elements.{listed, element_of, elements_of, bytes_of, each_element}
 use Rattle.vector_elements.specs.Laws.{GivesElements}
 use Rattle.vector_elements.proofs.Lists.{length-written, length-digits, bytes-append, take_front, drop_front}
@@ -24,10 +24,6 @@ number-digits (suc e) x =
     ap (λ n. x % 256 + 256 * n) (number-digits e (x / 256)) ∙ turned
     ∙ sym (mod-mul x (some_values e) (let some : 0 < 256 = omega arith in some)) ∙ ap (λ k. x % k) (sym (pow-suc 256 e))
 
--- what stands after the part that is read is not read
-read_front : (e at : ℕ) (xs ys : List ℕ) → at + e ≤ length xs → take e (drop at (xs ++ ys)) ≡ take e (drop at xs)
-read_front e at xs ys room = grind (arith, common_steps)
-
 pub read_back : (e : ℕ) (f : ℕ → ℕ) (n i : ℕ) → i < n → element_of e (bytes_of e (listed f n)) i ≡ f i % 256 ^ e
 unfolding element_of listed bytes_of
 read_back e f zero i none = absurd (omega arith)
@@ -39,7 +35,7 @@ read_back e f (suc n) i below =
     ∙ elim (cases_lt i n) [
       | inl before ↦
           let least : e * (i + 1) ≤ e * n = mul-le-mul_left e (omega arith) in
-          ap (number_l 256) (read_front e (e * i) (bytes_of e (listed f n)) (digits_l 256 e (f n) ++ []) (omega (arith, least, front)))
+          ap (number_l 256) (take_within e (e * i) (bytes_of e (listed f n)) (digits_l 256 e (f n) ++ []) (omega (arith, least, front)))
           ∙ read_back e f n i before
       | inr last ↦
           let here : i ≡ n = omega arith in

@@ -19,6 +19,6 @@ pub use lanes::{
 };
 pub use laws::{change_gives_elements, change_keeps_inactive};
 pub use loops::{Change, change_active, change_each, change_marked_or_zero, change_or_zero};
-pub use mask::{are_active, element_bits};
+pub use mask::{are_active, element_bits, expand, is_marked};
 pub use number::{low_bits, signed, wrapped};
 pub use size::Size;

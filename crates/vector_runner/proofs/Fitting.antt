@@ -1,10 +1,11 @@
 -- The vectors that are read are vectors of their lengths.
-use Rattle.std.proofs.Common.{◌≡◌, ℕ, suc, zero, ◌+◌, ◌<◌, ◌≤◌, true, false, cond, List, [], ◌∷◌, length, get_or, map, take, drop, Vec, Global, Bool, Option, Some, None, Result, Ok, Err, refl, sym, ap, ◌∙◌, arith, subst, All}
+use Rattle.std.proofs.Common.{◌≡◌, ℕ, suc, zero, ◌+◌, ◌<◌, ◌≤◌, true, false, cond, List, [], ◌∷◌, length, get_or, map, take, drop, Vec, Global, Option, Some, None, Result, Ok, Err, refl, sym, ap, ◌∙◌, arith, subst, All}
 use Rattle.std.specs.Prelude.{nat_le, nat_lt, ◌&&◌, option_and_then, option_map, IfOk}
 use Rattle.std.proofs.lemmas.Bool.Decides.{nat_tests}
 use Rattle.std.proofs.lemmas.Grind.{common_steps}
 use Rattle.std.proofs.lemmas.List.{length-map}
 use Rattle.std.proofs.Math.ListN.{get_or-map}
+use Rattle.std.proofs.lemmas.Bool.{and_parts}
 use Rattle.sm_types.specs.declared.length.VecLen.{VecLen}
 use Rattle.line_reader.specs.Lines.{lines_of, line_text, words_in}
 use Rattle.line_reader.specs.Numbers.{hex_number}
@@ -16,11 +17,6 @@ use Rattle.vector_runner.specs.declared.read.VectorFault.{VectorFault}
 use Rattle.vector_runner.specs.Told.{vector_told, AnswersAs}
 use Rattle.vector_runner.specs.Words.{field_in, if_here, field_here, fields_in, before_others, no_modes, vector_with, vector_in}
 use Rattle.vector_runner.specs.Grammar.{AreAscending, IsVector, Fault, TooLong, Line, onto_others, line_said, lines_said, vectors_in}
-
-both_true : (a b : Bool) → (a && b) ≡ true → (a ≡ true) × (b ≡ true)
-both_true true true e = (refl, refl)
-both_true true false e = cc
-both_true false b e = cc
 
 map-take : (n : ℕ) (xs : List code.Vector) → map vector_told (take n xs) ≡ take n (map vector_told xs)
 map-take zero xs = refl
@@ -46,7 +42,7 @@ module _ (vl svl : VecLen) where
       → ◌≡◌ {A = Option Field} (cond b (Some g) None) (Some f) → (fits vl svl modes f ≡ true) × (least ≤ rank f)) [
         | true ↦ λ is h. (
             let same : g ≡ f = cc in
-            let both = both_true (fits vl svl modes g) (nat_le least (rank g)) is in
+            let both = and_parts (fits vl svl modes g) (nat_le least (rank g)) is in
             subst (λ (x : Field). (fits vl svl modes x ≡ true) × (least ≤ rank x)) same (both.0, grind (arith, nat_tests)))
         | false ↦ λ is h. cc
       ] refl e

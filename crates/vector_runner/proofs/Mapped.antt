@@ -1,7 +1,7 @@
 -- Lists that are walked from the first element on, each seen as the code's own type tells it.
 use Rattle.std.proofs.Common.{◌≡◌, ℕ, ◌+◌, ◌<◌, ◌≤◌, ◌++◌, ◌∷◌, List, [], length, take, get_or, map, refl, sym, ap, ◌∙◌, arith, append_assoc, All, true}
 use Rattle.std.proofs.lemmas.Grind.{common_steps, flat_map-append}
-use Rattle.std.proofs.lemmas.List.{append-nil, length-map, map-append, take_more}
+use Rattle.std.proofs.lemmas.List.{append-nil, length-map, map-append, take_more, take_all}
 use Rattle.std.proofs.Math.ListN.{get_or-map}
 use Rattle.std.specs.List.{flat_map}
 use Rattle.sm_types.specs.declared.length.VecLen.{VecLen}
@@ -42,9 +42,6 @@ spaced_last fields f =
 
 -- ---- one turn of a loop more
 
-all_taken : {A : Type 0} (xs : List A) (i : ℕ) → length xs ≤ i → take i xs ≡ xs
-all_taken xs i l = grind (arith, common_steps)
-
 pub parts_more : {A : Type 0} (f : A → List ℕ) (xs : List A) (i : ℕ) (d : A) (before now next : List ℕ) → i < length xs
     → now ≡ before ++ flat_map f (take i xs) → next ≡ now ++ f (get_or xs i d) → next ≡ before ++ flat_map f (take (i + 1) xs)
 parts_more f xs i d before now next l h e =
@@ -77,10 +74,10 @@ module _ (xs : List code.Field) (i : ℕ) (it : code.Field) (l : i < length xs) 
       ∙ sym (ap modes_of told_more ∙ modes_last no_modes (map field_told (take i xs)) (field_told it))
 
 pub fields_end : (xs : List code.Field) (i : ℕ) → length xs ≤ i → map field_told (take i xs) ≡ map field_told xs
-fields_end xs i l = ap (map field_told) (all_taken xs i l)
+fields_end xs i l = ap (map field_told) (take_all i xs l)
 
 pub parts_end : {A : Type 0} (f : A → List ℕ) (xs : List A) (i : ℕ) → length xs ≤ i → flat_map f (take i xs) ≡ flat_map f xs
-parts_end f xs i l = ap (flat_map f) (all_taken xs i l)
+parts_end f xs i l = ap (flat_map f) (take_all i xs l)
 
 -- an answer more
 pub answers_more : (vl svl : VecLen) (xs : List code_vector.Vector) (i : ℕ) (it : code_vector.Vector) (now next : List (List ℕ))
@@ -95,7 +92,7 @@ answers_more vl svl xs i it now next line l is h e made =
 
 pub answers_end : (vl svl : VecLen) (xs : List code_vector.Vector) (i : ℕ) → length xs ≤ i
     → answers vl svl (map vector_told (take i xs)) ≡ answers vl svl (map vector_told xs)
-answers_end vl svl xs i l = ap (λ ys. answers vl svl (map vector_told ys)) (all_taken xs i l)
+answers_end vl svl xs i l = ap (λ ys. answers vl svl (map vector_told ys)) (take_all i xs l)
 
 -- each field of the code fits, where each that it tells does
 pub all_mapped : (vl svl : VecLen) (modes : Modes) (xs : List code.Field) → modes ≡ modes_of (map field_told xs)

@@ -9,6 +9,7 @@ use Rattle.std.proofs.lemmas.Bool.Decides.{nat_tests}
 use Rattle.std.proofs.lemmas.List.{take-append-drop, drop_more}
 use Rattle.std.proofs.lemmas.List.Quantifiers.{position-Some}
 use Rattle.std.proofs.lemmas.Slice.Eq.{bytes_eq-Decides}
+use Rattle.std.proofs.lemmas.Option.{same_Some}
 use Rattle.line_reader.specs.Numbers.{hex_number}
 use Rattle.text_lines.specs.Numbers.{digit}
 use Rattle.vector_runner.specs.declared.words.Key.{Key}
@@ -17,7 +18,7 @@ use Rattle.vector_runner.specs.Field.{Field, X, Sp, Nzcv, Tpidr, Tpidr2, Svcr, Z
 use Rattle.vector_runner.specs.Grammar.{IsValue, IsWordOf}
 use Rattle.vector_runner.specs.Words.{single_key, numbered_key, number_after, key_in, all_flags, flag_in, flags_in, svcr_in, bytes_in}
 use Rattle.vector_runner.specs.Words.{field_of, field_with, field_in}
-use Rattle.vector_runner.proofs.Values.{some_is, number_read, bytes_read, flag_read, flag_said}
+use Rattle.vector_runner.proofs.Values.{number_read, bytes_read, flag_read, flag_said}
 use Rattle.vector_runner.proofs.Values.{number_named}
 
 -- ---- what two steps gave
@@ -27,14 +28,14 @@ picked : {V : Type 0} (Holds : V → Type 0) (word name : List ℕ) (first v : V
     → (others ≡ Some v → Holds v) → cond (bytes_eq word name) (Some first) others ≡ Some v → Holds v
 picked {V} Holds word name first v others here more e =
     elim (bytes_eq word name) as (λ b. bytes_eq word name ≡ b → ◌≡◌ {A = Option V} (cond b (Some first) others) (Some v) → Holds v) [
-      | true ↦ λ same h. subst Holds (some_is first v h) (here ((bytes_eq-Decides word name).0 same))
+      | true ↦ λ same h. subst Holds (same_Some first v h) (here ((bytes_eq-Decides word name).0 same))
       | false ↦ λ other h. more h
     ] refl e
 
 pub made : {A B : Type 0} (make : A → B) (o : Option A) (b : B) (Holds : B → Type 0) → ((a : A) → o ≡ Some a → Holds (make a))
     → option_map make o ≡ Some b → Holds b
 made make None b Holds each e = cc
-made make (Some a) b Holds each e = subst Holds (some_is (make a) b e) (each a refl)
+made make (Some a) b Holds each e = subst Holds (same_Some (make a) b e) (each a refl)
 
 pub then_made : {A B : Type 0} (o : Option A) (next : A → Option B) (b : B) (Holds : Type 0)
     → ((a : A) → o ≡ Some a → next a ≡ Some b → Holds) → option_and_then next o ≡ Some b → Holds
@@ -105,7 +106,7 @@ all_read None p q r f Holds each e = cc
 all_read (Some n) None q r f Holds each e = cc
 all_read (Some n) (Some z) None r f Holds each e = cc
 all_read (Some n) (Some z) (Some c) None f Holds each e = cc
-all_read (Some n) (Some z) (Some c) (Some v) f Holds each e = subst Holds (some_is (Nzcv n z c v) f e) (each n z c v refl refl refl refl)
+all_read (Some n) (Some z) (Some c) (Some v) f Holds each e = subst Holds (same_Some (Nzcv n z c v) f e) (each n z c v refl refl refl refl)
 
 flags_read : (digits : List ℕ) (f : Field) → flags_in digits ≡ Some f → Named key.Nzcv digits f
 unfolding flags_in

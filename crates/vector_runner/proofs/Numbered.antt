@@ -6,6 +6,7 @@ use Rattle.std.proofs.lemmas.List.Folds.{list_all-append}
 use Rattle.std.proofs.lemmas.Bool.Decides.{nat_tests}
 use Rattle.std.specs.Prelude.{◌==◌, ◌&&◌, IsSome, unwrap_or}
 use Rattle.std.proofs.Math.Seq.{drop-cons}
+use Rattle.plain_lemmas.proofs.Tests.{and-false}
 use Rattle.text_lines.specs.Rows.{are_zero}
 use Rattle.vector_runner.specs.Field.{Field}
 use Rattle.paged_memory.specs.Memory.{AddressSpace, bytes_with, first_without}
@@ -51,10 +52,6 @@ last_zero (x ∷ xs) =
     let same : are_zero (x ∷ xs ++ 0 ∷ []) ≡ are_zero (x ∷ xs) = zeros_both (x ∷ xs) 0 ∙ and_true (are_zero (x ∷ xs)) in
     ap (λ t. cond t [] (x ∷ up_to_last (xs ++ 0 ∷ []))) same ∙ ap (λ l. cond (are_zero (x ∷ xs)) [] (x ∷ l)) (last_zero xs)
 
-and_false : (t : Bool) → (t && false) ≡ false
-and_false true = refl
-and_false false = refl
-
 last_other : (xs : List ℕ) (b : ℕ) → (b == 0) ≡ false → up_to_last (xs ++ b ∷ []) ≡ xs ++ b ∷ []
 unfolding up_to_last
 last_other [] b e =
@@ -62,7 +59,7 @@ last_other [] b e =
     ap (λ t. cond t [] (b ∷ [])) no
 last_other (x ∷ xs) b e =
     let no : are_zero (x ∷ xs ++ b ∷ []) ≡ false = zeros_both (x ∷ xs) b ∙ ap (λ t. are_zero (x ∷ xs) && t) e
-    ∙ and_false (are_zero (x ∷ xs)) in
+    ∙ and-false (are_zero (x ∷ xs)) in
     ap (λ t. cond t [] (x ∷ up_to_last (xs ++ b ∷ []))) no ∙ ap (λ l. x ∷ l) (last_other xs b e)
 
 -- one byte more is looked at

@@ -5,12 +5,13 @@ use Rattle.std.specs.Prelude.{All, nat_le, option_map, option_and_then}
 use Rattle.std.proofs.lemmas.Bool.{and_parts, and_from, le-leb}
 use Rattle.std.proofs.lemmas.Bool.Decides.{nat_tests}
 use Rattle.std.proofs.lemmas.List.Elements.{All-nil, All-cons, All-head, All-tail}
+use Rattle.std.proofs.lemmas.Option.{same_Some}
+use Rattle.plain_lemmas.proofs.Options.{cond_some_parts}
 use Rattle.sm_types.specs.declared.length.VecLen.{VecLen}
 use Rattle.vector_runner.specs.declared.vector.Modes.{Modes}
 use Rattle.vector_runner.specs.Field.{Field, X, Sp, Nzcv, Tpidr, Tpidr2, Svcr, Z, P, Ffr, Za, M, modes_after, modes_with, rank, fits}
 use Rattle.vector_runner.specs.Grammar.{IsWordOf, SayFields, AreAscending}
 use Rattle.vector_runner.specs.Words.{field_in, if_here, field_here, before_others, fields_in}
-use Rattle.vector_runner.proofs.Values.{some_is, chose}
 use Rattle.vector_runner.proofs.Names.{made, then_made, word_read}
 use Rattle.vector_runner.proofs.Written.{word_said}
 
@@ -139,9 +140,9 @@ unfolding field_here
 here_read vl svl modes least word f e =
     then_made (field_in word) (if_here vl svl modes least) f (IsHere vl svl modes least word f)
     (λ g is h.
-    let stands = chose (fits vl svl modes g && nat_le least (rank g)) (Some g) f h in
+    let stands = cond_some_parts (fits vl svl modes g && nat_le least (rank g)) (Some g) f h in
     let both = and_parts (fits vl svl modes g) (nat_le least (rank g)) stands.0 in
-    let same : g ≡ f = some_is g f stands.1 in
+    let same : g ≡ f = same_Some g f stands.1 in
     let test : nat_le least (rank g) ≡ true = both.1 in
     let low : least ≤ rank g = grind (arith, nat_tests) in
     record {

@@ -4,17 +4,20 @@ use Rattle.std.proofs.Common.{◌∷◌, ◌++◌, length, get_or, replicate, re
 use Rattle.std.specs.Prelude.{map, is_some, unwrap_or, ◌==◌, IfOk}
 use Rattle.std.proofs.lemmas.Bool.Decides.{nat_tests}
 use Rattle.std.proofs.lemmas.List.{length-append, length-map, length-replicate}
+use Rattle.std.proofs.lemmas.Bool.{cases_lt}
 use Rattle.std.specs.FinMap.{FinMap, get, insert, empty, entries, get-entries, get-insert, get-empty, same_map, nat_cmp-IsAntisymmetric}
 use Rattle.std.specs.FinMap.Entries.{find}
 use Rattle.std.specs.Cmp.{nat_cmp_total}
 use Rattle.std.specs.Ordering.{nat_cmp, eq_by_cmp}
 use Rattle.std.specs.Int.{w32, to_le_bytes}
+use Rattle.plain_lemmas.proofs.Tests.{eq_by_cmp-nat}
+use Rattle.plain_lemmas.proofs.Options.{is_some-false}
 use Rattle.paged_memory.specs.declared.page_list.PageImage.{PageImage}
 use Rattle.paged_memory.specs.Memory.{AddressSpace, IsWhole, bytes_from, set_bytes, with_page, zero_page}
 use Rattle.sm_types.specs.declared.Memory.{Memory}
 use Rattle.paged_memory.specs.PageTable.{PageTable}
 use Rattle.paged_memory.specs.PageList.{IsPageImage, IsPageList, HasPage, image_entry}
-use Rattle.paged_memory.proofs.Over.{over, over-inside, over-below, over-above, get-set_bytes, eq_by_cmp-nat, low_or}
+use Rattle.paged_memory.proofs.Over.{over, over-inside, over-below, over-above, get-set_bytes}
 use Rattle.vector_runner.specs.State.{page_seen, both_pages, code_page, memory_with}
 
 -- ---- the list
@@ -134,10 +137,6 @@ some_of : (o : Option ℕ) → is_some o ≡ true → o ≡ Some (unwrap_or o 0)
 some_of None e = cc
 some_of (Some b) e = refl
 
-none_of : (o : Option ℕ) → is_some o ≡ false → o ≡ None
-none_of None e = refl
-none_of (Some b) e = cc
-
 byte_from : (m : FinMap nat_cmp ℕ) (a n k : ℕ) → k < n → slice_get (bytes_from m a n) k ≡ Some (unwrap_or (get m (a + k)) 0)
 unfolding bytes_from
 byte_from m a zero k l = absurd (omega arith)
@@ -161,13 +160,13 @@ data Place (a : ℕ) : Type 0 where
 
 place_of : (a : ℕ) → Place a
 place_of a =
-    elim (low_or a 65536) [
+    elim (cases_lt a 65536) [
       | inl l ↦ Elsewhere (λ e. absurd (omega arith)) (λ e. absurd (omega arith)) (inl l) (inl (omega arith))
-      | inr h ↦ elim (low_or a 69632) [
+      | inr h ↦ elim (cases_lt a 69632) [
         | inl l ↦ InData h l
-        | inr g ↦ elim (low_or a 131072) [
+        | inr g ↦ elim (cases_lt a 131072) [
           | inl l ↦ Elsewhere (λ e. absurd (omega arith)) (λ e. absurd (omega arith)) (inr g) (inl l)
-          | inr j ↦ elim (low_or a 135168) [
+          | inr j ↦ elim (cases_lt a 135168) [
             | inl l ↦ InCode j l
             | inr k ↦ Elsewhere (λ e. absurd (omega arith)) (λ e. absurd (omega arith)) (inr g) (inr k)
           ]
@@ -201,7 +200,7 @@ module _ (m : AddressSpace) (code zeros : List ℕ) (whole : IsWhole m) (perm : 
       in_page m.mem 131072 code a is_code l (omega arith) (there a 32 (omega arith) ∙ ap is_some (perms_at 32))
       ∙ sym (over-above 65536 zeros a _ (omega (arith, long_d)) ∙ over-inside 131072 code a _ l (omega (arith, long_c)))
   byte_is a (Elsewhere p q r s) =
-      none_of (get m.mem a) (there a (a / 4096) refl ∙ ap is_some (other_page (a / 4096) p q))
+      is_some-false (get m.mem a) (there a (a / 4096) refl ∙ ap is_some (other_page (a / 4096) p q))
       ∙ sym (outside 65536 zeros a _ long_d r ∙ outside 131072 code a None long_c s)
 
   bytes_are : m.mem ≡ set_bytes (set_bytes empty 131072 code) 65536 zeros

@@ -11,6 +11,8 @@ use Rattle.std.proofs.lemmas.Bool.Decides.{nat_tests}
 use Rattle.std.proofs.lemmas.Int.Digits.{digits_value-lt}
 use Rattle.std.proofs.lemmas.List.{take-append-drop}
 use Rattle.std.proofs.lemmas.Slice.Eq.{bytes_eq-Decides}
+use Rattle.std.proofs.lemmas.Option.{same_Some}
+use Rattle.plain_lemmas.proofs.Options.{cond_some_parts}
 use Rattle.hex.specs.Hex.{decode_of}
 use Rattle.hex.specs.declared.error.FromHexError.{FromHexError}
 use Rattle.line_reader.specs.Numbers.{is_digit_of, digits_in, hex_number, is_hex, decimal_number, if_below, number_below}
@@ -19,16 +21,6 @@ use Rattle.line_reader.proofs.Digits.{decimal_read, decimal_printed}
 use Rattle.text_lines.specs.Numbers.{digit}
 use Rattle.vector_runner.specs.Grammar.{IsNumber, IsBytes}
 use Rattle.vector_runner.specs.Words.{after, number_after, flag_in, if_decoded, bytes_in}
-
--- ---- what a choice gave
-
-pub some_is : {A : Type 0} (a b : A) → ◌≡◌ {A = Option A} (Some a) (Some b) → a ≡ b
-some_is a b e = cc
-
--- the first of two, where there is no other
-pub chose : {A : Type 0} (b : Bool) (o : Option A) (a : A) → cond b o None ≡ Some a → (b ≡ true) × (o ≡ Some a)
-chose true o a e = (refl, e)
-chose false o a e = cc
 
 -- ---- hexadecimal digits
 
@@ -44,13 +36,13 @@ all_digits (d ∷ ds) e =
 pub number_read : (count : ℕ) (ds : List ℕ) (n : ℕ) → hex_number count ds ≡ Some n → IsNumber count ds n
 unfolding hex_number digits_in is_hex
 number_read count ds n e =
-    let long = chose (length ds == count) _ n e in
-    let all = chose (list_all (is_digit_of Sixteen) ds) _ n long.1 in
-    let fits = chose (nat_lt (digits_value 16 ds) (2 ^ 64)) (Some (digits_value 16 ds)) n all.1 in
+    let long = cond_some_parts (length ds == count) _ n e in
+    let all = cond_some_parts (list_all (is_digit_of Sixteen) ds) _ n long.1 in
+    let fits = cond_some_parts (nat_lt (digits_value 16 ds) (2 ^ 64)) (Some (digits_value 16 ds)) n all.1 in
     record {
       many = (let it : (length ds == count) ≡ true = long.0 in grind (arith, nat_tests));
       hexadecimal = all.0;
-      value = some_is (digits_value 16 ds) n fits.1;
+      value = same_Some (digits_value 16 ds) n fits.1;
     }
 
 pub number_said : (count : ℕ) (ds : List ℕ) (n : ℕ) → 16 ^ count ≤ 2 ^ 64 → IsNumber count ds n → hex_number count ds ≡ Some n
@@ -79,7 +71,7 @@ decoded_is (Err fault) bytes e = cc
 pub bytes_read : (digits bytes : List ℕ) → bytes_in digits ≡ Some bytes → IsBytes digits bytes
 unfolding bytes_in
 bytes_read digits bytes e =
-    let all = chose (is_hex digits) (if_decoded (decode_of digits)) bytes e in
+    let all = cond_some_parts (is_hex digits) (if_decoded (decode_of digits)) bytes e in
     record { hexadecimal = all.0; value = decoded_is (decode_of digits) bytes all.1 }
 
 pub bytes_said : (digits bytes : List ℕ) → IsBytes digits bytes → bytes_in digits ≡ Some bytes
@@ -93,12 +85,12 @@ pub flag_read : (c : ℕ) (b : Bool) → flag_in c ≡ Some b → c ≡ digit b
 unfolding flag_in digit
 flag_read c b e =
     elim (c == 48) as (λ t. (c == 48) ≡ t → cond t (Some false) (cond (c == 49) (Some true) None) ≡ Some b → c ≡ digit b) [
-      | true ↦ λ is h. (let at : c ≡ 48 = grind (arith, nat_tests) in at ∙ ap digit (some_is false b h))
+      | true ↦ λ is h. (let at : c ≡ 48 = grind (arith, nat_tests) in at ∙ ap digit (same_Some false b h))
       | false ↦ λ is h.
-          let next = chose (c == 49) (Some true) b h in
+          let next = cond_some_parts (c == 49) (Some true) b h in
           let one : (c == 49) ≡ true = next.0 in
           let at : c ≡ 49 = grind (arith, nat_tests) in
-          at ∙ ap digit (some_is true b next.1)
+          at ∙ ap digit (same_Some true b next.1)
     ] refl e
 
 pub flag_said : (b : Bool) → flag_in (digit b) ≡ Some b
@@ -111,9 +103,9 @@ flag_said false = refl
 below_is : (o : Option ℕ) (n : ℕ) → option_and_then (if_below 256) o ≡ Some n → (o ≡ Some n) × (n < 256)
 below_is None n e = cc
 below_is (Some m) n e =
-    let low = chose (nat_lt m 256) (Some m) n e in
+    let low = cond_some_parts (nat_lt m 256) (Some m) n e in
     let test : nat_lt m 256 ≡ true = low.0 in
-    let same : m ≡ n = some_is m n low.1 in
+    let same : m ≡ n = same_Some m n low.1 in
     (low.1, grind (arith, nat_tests))
 
 below_read : (ds : List ℕ) (n : ℕ) → number_below 256 ds ≡ Some n → ds ≡ decimal n
@@ -129,10 +121,10 @@ below_said n l =
 after_is : (first name rest : List ℕ) → after first name ≡ Some rest → name ≡ first ++ rest
 unfolding after
 after_is first name rest e =
-    let begins = chose (bytes_eq (take (length first) name) first) (Some (drop (length first) name)) rest e in
+    let begins = cond_some_parts (bytes_eq (take (length first) name) first) (Some (drop (length first) name)) rest e in
     sym (take-append-drop (length first) name)
     ∙ ap (λ (a : List ℕ). a ++ drop (length first) name) ((bytes_eq-Decides (take (length first) name) first).0 begins.0)
-    ∙ ap (λ (b : List ℕ). first ++ b) (some_is (drop (length first) name) rest begins.1)
+    ∙ ap (λ (b : List ℕ). first ++ b) (same_Some (drop (length first) name) rest begins.1)
 
 after_then : (first name : List ℕ) (o : Option (List ℕ)) (n : ℕ) → ((rest : List ℕ) → o ≡ Some rest → name ≡ first ++ rest)
     → option_and_then (λ digits. number_below 256 digits) o ≡ Some n → name ≡ first ++ decimal n

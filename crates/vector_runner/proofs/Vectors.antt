@@ -5,6 +5,8 @@ use Rattle.std.specs.Prelude.{nat_le, IfOk}
 use Rattle.std.proofs.lemmas.Bool.{le-ltb, le-leb}
 use Rattle.std.proofs.lemmas.Bool.Decides.{nat_tests}
 use Rattle.std.proofs.lemmas.List.{length-map}
+use Rattle.std.proofs.lemmas.Option.{same_Some}
+use Rattle.plain_lemmas.proofs.Options.{same_Ok}
 use Rattle.line_reader.specs.Lines.{lines_of, line_text, words_in}
 use Rattle.line_reader.specs.Numbers.{hex_number}
 use Rattle.sm_types.specs.declared.length.VecLen.{VecLen}
@@ -15,7 +17,7 @@ use Rattle.vector_runner.specs.declared.read.VectorFault.{VectorFault}
 use Rattle.vector_runner.specs.Words.{fields_in, no_modes, vector_with, vector_in}
 use Rattle.vector_runner.specs.Grammar.{IsVectorLine, Say, IsFileOf, Fault, TooLong, Line, IsAtFault, Silent, Past, IsFirstAtFault, IsFaultOf}
 use Rattle.vector_runner.specs.Grammar.{line_said, onto_others, lines_said, vectors_in}
-use Rattle.vector_runner.proofs.Values.{some_is, number_read, number_said, eight_fit}
+use Rattle.vector_runner.proofs.Values.{number_read, number_said, eight_fit}
 use Rattle.vector_runner.proofs.Order.{fields_read, fields_said, placed_ascend, placed_fit, are_placed}
 
 -- ---- a line
@@ -24,7 +26,7 @@ with_both : (o : Option ℕ) (p : Option (List Field)) (v : Vector) → vector_w
 with_both None p v e = cc
 with_both (Some word) None v e = cc
 with_both (Some word) (Some fields) v e =
-    let it : ◌≡◌ {A = Vector} (record { word = word; fields = fields }) v = some_is _ v e in
+    let it : ◌≡◌ {A = Vector} (record { word = word; fields = fields }) v = same_Some _ v e in
     (ap (λ (w : Vector). let o : Option ℕ = Some w.word in o) it, ap (λ (w : Vector). let p : Option (List Field) = Some w.fields in p) it)
 
 line_from : (vl svl : VecLen) (line : List ℕ) (words : List (List ℕ)) (v : Vector) → words_in (line_text line) ≡ words
@@ -63,7 +65,7 @@ unfolding line_said
 line_reads vl svl line v it = ap (vector_in vl svl) it.words ∙ words_said vl svl line v it
 
 pub same_vector : (vl svl : VecLen) (line : List ℕ) (v w : Vector) → IsVectorLine vl svl line v → IsVectorLine vl svl line w → v ≡ w
-same_vector vl svl line v w h k = some_is v w (sym (line_reads vl svl line v h) ∙ line_reads vl svl line w k)
+same_vector vl svl line v w h k = same_Some v w (sym (line_reads vl svl line v h) ∙ line_reads vl svl line w k)
 
 -- ---- lines
 
@@ -72,17 +74,11 @@ not_refused : (b : Bool) (fault : Fault) (r : Result (List Vector) Fault) (vecto
 not_refused true fault r vectors e = cc
 not_refused false fault r vectors e = (refl, e)
 
-ok_is : (a b : List Vector) → ◌≡◌ {A = Result (List Vector) Fault} (Ok a) (Ok b) → a ≡ b
-ok_is a b e = cc
-
-err_is : (a b : Fault) → ◌≡◌ {A = Result (List Vector) Fault} (Err a) (Err b) → a ≡ b
-err_is a b e = cc
-
 onto_read : (n : ℕ) (o : Option Vector) (r : Result (List Vector) Fault) (all : List Vector) (Holds : List Vector → Type 0)
     → ((v : Vector) (vectors : List Vector) → o ≡ Some v → r ≡ Ok vectors → Holds (v ∷ vectors)) → onto_others n o r ≡ Ok all → Holds all
 onto_read n None r all Holds each e = cc
 onto_read n (Some v) (Err fault) all Holds each e = cc
-onto_read n (Some v) (Ok vectors) all Holds each e = subst Holds (ok_is (v ∷ vectors) all e) (each v vectors refl refl)
+onto_read n (Some v) (Ok vectors) all Holds each e = subst Holds (same_Ok (v ∷ vectors) all e) (each v vectors refl refl)
 
 module _ (vl svl : VecLen) where
   -- all lines say vectors, and there are not too many

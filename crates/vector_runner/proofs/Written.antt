@@ -1,5 +1,5 @@
 -- The text of a field that a state has is read as that field.
-use Rattle.std.proofs.Common.{◌≡◌, ℕ, suc, ◌+◌, ◌<◌, ◌≤◌, Bool, true, false, cond, not, ◌&&◌, nat_lt, List, [], ◌∷◌, ◌++◌}
+use Rattle.std.proofs.Common.{◌≡◌, ℕ, suc, ◌+◌, ◌<◌, ◌≤◌, Bool, true, cond, not, nat_lt, List, [], ◌∷◌, ◌++◌}
 use Rattle.std.proofs.Common.{length, take, drop, Some, None, refl, ap, ◌∙◌, arith, lt-ltb}
 use Rattle.std.specs.Prelude.{codes, decimal, option_map, option_and_then}
 use Rattle.std.specs.Char.{is_ascii_digit}
@@ -7,6 +7,7 @@ use Rattle.std.specs.List.{list_all, position, position_or_len}
 use Rattle.std.specs.Option.{option_or}
 use Rattle.std.proofs.lemmas.Bool.{and_parts, and_from}
 use Rattle.std.proofs.lemmas.Bool.Decides.{nat_tests}
+use Rattle.plain_lemmas.proofs.Tests.{and-false}
 use Rattle.line_reader.specs.Numbers.{number_below, decimal_number, is_decimal, has_no_leading_zero, if_fits, if_below, decimal_value}
 use Rattle.line_reader.proofs.Digits.{decimal_digits}
 use Rattle.sm_types.specs.declared.length.VecLen.{VecLen}
@@ -77,15 +78,11 @@ key_of (Ffr bytes) = key.Ffr
 key_of (Za n bytes) = key.Za n
 key_of (M bytes) = key.M
 
-never : (b : Bool) → (b && false) ≡ false
-never true = refl
-never false = refl
-
 -- what begins with a letter (97) is no number
 no_number : (ds : List ℕ) → number_below 256 (97 ∷ ds) ≡ None
 unfolding number_below decimal_number is_decimal
 no_number ds =
-    ap (λ b. option_and_then (if_below 256) (cond b (if_fits (decimal_value (97 ∷ ds))) None)) (never (has_no_leading_zero (97 ∷ ds)))
+    ap (λ b. option_and_then (if_below 256) (cond b (if_fits (decimal_value (97 ∷ ds))) None)) (and-false (has_no_leading_zero (97 ∷ ds)))
 
 x_said : (n : ℕ) → n < 256 → key_in (codes "x" ++ decimal n) ≡ Some (key.X n)
 unfolding key_in single_key numbered_key number_after after

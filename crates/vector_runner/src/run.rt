@@ -136,8 +136,9 @@ fn answer_shares<R: Threads + Sync, G: Gate + Sync>(
 
 /// The answers to vectors, in order, by so many workers, 1 to 64, in threads of the system. There are at most
 /// 2,048 vectors, each of which is that of a line for these lengths. Worker `w` calls `gate.pass(w, 0, l)`
-/// once before its first line, of which `l` is the index, and one without a line does not. No shared word is
-/// touched. `Memory`, which is want of memory, is the only other answer. The call may wait.
+/// once, where `l` is the index of its first line, and one without a line does not: tests show it, no clause
+/// says it, nor that it comes before the line. No shared word is touched. `Memory`, which is want of memory,
+/// is the only other answer. The call may wait.
 pub fn run_vectors<R: Threads + Sync, G: Gate + Sync>(
     rt: &R,
     alloc: Global,

@@ -4,6 +4,7 @@ ghost use Rattle.sve_vectors.specs.Registers.{VectorRegisters, vector_at, vector
 ghost use Rattle.sve_vectors.specs.State.{length_of, with_registers};
 ghost use Rattle.vector_step.specs.Sizes.{IsVectorLength};
 
+use std::simd::prelude::*;
 use sve_vectors::Vectors;
 
 /// What an instruction makes of a vector.
@@ -59,6 +60,22 @@ fn change_in_row<C: VectorChange>(vectors: &mut Vectors, n: u8, d: u8, change: &
     vectors.put_z(d, row);
 }
 
+/// The same as `change_vector`, where vectors have 16 bytes, which are copied as one.
+#[inline(always)]
+#[tactic(auto, using(sve_vectors::proofs::Whole::vector_whole, crate::proofs::Sizes::is_length))]
+fn change_sixteen<C: VectorChange>(vectors: &mut Vectors, n: u8, d: u8, change: &C)
+    requires n { n < 32 }
+    requires d { d < 32 }
+    requires can { C.can change.now }
+    requires sixteen { length_of vectors.old ≡ 16 }
+    ensures { vectors.new ≡ with_registers vectors.old (vector_written vectors.old.registers d
+        (C.gives change.now vectors.old.registers (vector_at vectors.old.registers n))) }
+{
+    let mut room = u8x16::from_slice(vectors.z(n)).to_array();
+    change.apply(vectors, room.as_mut_slice());
+    u8x16::from_array(room).copy_to_slice(vectors.z_mut(d));
+}
+
 /// Changes a copy of vector `n`, and makes it vector `d`. The registers that the change reads may be `d` too.
 #[inline(always)]
 pub fn change_vector<C: VectorChange>(vectors: &mut Vectors, n: u8, d: u8, change: &C)
@@ -68,6 +85,10 @@ pub fn change_vector<C: VectorChange>(vectors: &mut Vectors, n: u8, d: u8, chang
     ensures { vectors.new ≡ with_registers vectors.old (vector_written vectors.old.registers d
         (C.gives change.now vectors.old.registers (vector_at vectors.old.registers n))) }
 {
+    if vectors.length() == 16 {
+        change_sixteen(vectors, n, d, change);
+        return;
+    }
     match vectors.take_spare() {
         Some(row) => {
             if vectors.length() <= row.len() {

@@ -18,6 +18,7 @@ use sve_vectors::{Vectors, read_p, write_p};
 
 /// Compares two vectors, or a vector with an immediate, where a predicate is active.
 #[tactic(auto, unfolding(crate::specs::Predicates::after_compare))]
+#[inline(never)]
 pub fn exec_compare(scalars: &mut Scalars, vectors: &mut Vectors, x: &VectorCompare)
     requires { IsVectorCompare x.now }
     ensures scalars { scalars.new ≡

@@ -268,6 +268,7 @@ fn exec_immediate(vectors: &mut Vectors, x: &VectorCopy)
 
 /// Copies to vectors, of registers and of immediates, and operations with an immediate.
 #[tactic(auto, unfolding(crate::specs::Copies::after_copy))]
+#[inline(never)]
 pub fn exec_copy(scalars: &Scalars, vectors: &mut Vectors, x: &VectorCopy)
     requires { IsVectorCopy x.now }
     ensures { vectors.new ≡ with_registers vectors.old (after_copy x.now scalars.now vectors.old.registers) }

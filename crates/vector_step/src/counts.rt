@@ -39,6 +39,7 @@ fn change_by_count(
 /// Writes a number of elements, changes a register by it, or writes or adds lengths of a vector of `bytes`
 /// bytes.
 #[tactic(auto, unfolding(crate::specs::Counts::after_element_count))]
+#[inline(never)]
 pub fn exec_element_count(scalars: &mut Scalars, bytes: u64, x: &ElementCount)
     requires range { IsElementCount x.now }
     requires small { bytes ≤ 256 }

@@ -123,6 +123,7 @@ impl VectorChange for Unpacked {
 }
 
 /// Moves the elements of vectors.
+#[inline(never)]
 pub fn exec_permute(vectors: &mut Vectors, x: &VectorPermute)
     requires { IsVectorPermute x.now }
     ensures { vectors.new ≡ with_registers vectors.old (after_permute x.now vectors.old.registers) }
@@ -164,6 +165,7 @@ pub fn exec_permute(vectors: &mut Vectors, x: &VectorPermute)
 
 /// Writes the last active element to a general register, or a reduction to a vector.
 #[tactic(auto, unfolding(crate::specs::Permutes::after_reduction), using(crate::proofs::Sizes::is_length))]
+#[inline(never)]
 pub fn exec_reduction(scalars: &mut Scalars, vectors: &mut Vectors, x: &VectorReduction)
     requires { IsVectorReduction x.now }
     ensures scalars { scalars.new ≡

@@ -15,6 +15,7 @@ use sve_vectors::{Vectors, read_p, write_p};
 
 /// Writes a predicate of a pattern, of no element, or of two predicates, or tests one.
 #[tactic(auto, unfolding(crate::specs::Predicates::after_predicate))]
+#[inline(never)]
 pub fn exec_predicate(scalars: &mut Scalars, vectors: &mut Vectors, x: &Predicate)
     requires { IsPredicate x.now }
     ensures scalars { scalars.new ≡

@@ -23,6 +23,7 @@ fn set_all(bytes: &mut [u8])
 
 /// Writes the predicate of a loop, counts active elements, or writes or reads FFR.
 #[tactic(auto, unfolding(crate::specs::Predicates::after_predicate_count))]
+#[inline(never)]
 pub fn exec_predicate_count(scalars: &mut Scalars, vectors: &mut Vectors, x: &PredicateCount)
     requires { IsPredicateCount x.now }
     ensures scalars { scalars.new ≡

@@ -78,6 +78,7 @@ impl VectorChange for Widened {
 
 /// Products, logical operations on three vectors, and operations with elements twice as wide.
 #[tactic(auto, unfolding(crate::specs::Vectors::after_sve2), using(crate::proofs::Sizes::wider_than_byte))]
+#[inline(never)]
 pub fn exec_sve2(vectors: &mut Vectors, x: &Sve2)
     requires { IsSve2 x.now }
     ensures { vectors.new ≡ with_registers vectors.old (after_sve2 x.now vectors.old.registers) }

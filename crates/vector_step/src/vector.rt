@@ -38,6 +38,7 @@ impl VectorChange for VectorArithmetic {
 
 /// Sums and differences of two vectors.
 #[tactic(auto, unfolding(crate::specs::Vectors::after_arithmetic))]
+#[inline(never)]
 pub fn exec_arithmetic(vectors: &mut Vectors, x: &VectorArithmetic)
     requires { IsVectorArithmetic x.now }
     ensures { vectors.new ≡ with_registers vectors.old (after_arithmetic x.now vectors.old.registers) }
@@ -58,6 +59,7 @@ impl VectorChange for VectorLogical {
 
 /// Logical operations on two vectors.
 #[tactic(auto, unfolding(crate::specs::Vectors::after_logical))]
+#[inline(never)]
 pub fn exec_logical(vectors: &mut Vectors, x: &VectorLogical)
     requires { IsVectorLogical x.now }
     ensures { vectors.new ≡ with_registers vectors.old (after_logical x.now vectors.old.registers) }
@@ -80,6 +82,7 @@ impl VectorChange for PredicatedBinary {
 
 /// Operations on two vectors under a predicate.
 #[tactic(auto, unfolding(crate::specs::Vectors::after_binary))]
+#[inline(never)]
 pub fn exec_binary(vectors: &mut Vectors, x: &PredicatedBinary)
     requires { IsPredicatedBinary x.now }
     ensures { vectors.new ≡ with_registers vectors.old (after_binary x.now vectors.old.registers) }
@@ -110,6 +113,7 @@ impl VectorChange for MultiplyAdd {
 
 /// Products that are added to a vector under a predicate, or subtracted.
 #[tactic(auto, unfolding(crate::specs::Vectors::after_multiply_add))]
+#[inline(never)]
 pub fn exec_multiply_add(vectors: &mut Vectors, x: &MultiplyAdd)
     requires { IsMultiplyAdd x.now }
     ensures { vectors.new ≡ with_registers vectors.old (after_multiply_add x.now vectors.old.registers) }
@@ -132,6 +136,7 @@ impl VectorChange for PredicatedUnary {
 
 /// Operations on one vector under a predicate.
 #[tactic(auto, unfolding(crate::specs::Vectors::after_unary))]
+#[inline(never)]
 pub fn exec_unary(vectors: &mut Vectors, x: &PredicatedUnary)
     requires { IsPredicatedUnary x.now }
     ensures { vectors.new ≡ with_registers vectors.old (after_unary x.now vectors.old.registers) }
@@ -152,6 +157,7 @@ impl VectorChange for VectorShift {
 
 /// Shifts of a vector by an immediate.
 #[tactic(auto, unfolding(crate::specs::Vectors::after_shift))]
+#[inline(never)]
 pub fn exec_shift(vectors: &mut Vectors, x: &VectorShift)
     requires { IsVectorShift x.now }
     ensures { vectors.new ≡ with_registers vectors.old (after_shift x.now vectors.old.registers) }

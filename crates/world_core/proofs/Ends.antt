@@ -5,6 +5,7 @@ use Rattle.std.specs.Prelude.{slice_get, is_some, Contains, All}
 use Rattle.std.proofs.lemmas.List.{length-map}
 use Rattle.std.proofs.lemmas.List.Elements.{All-contains, All-from_recursion}
 use Rattle.std.proofs.lemmas.Option.{same_Some, none-some}
+use Rattle.plain_lemmas.proofs.Lists.{slice_get_from_map}
 use Rattle.sm_types.specs.declared.config.Config.{Config}
 use Rattle.sm_types.specs.declared.shared_op.Event.{Event}
 use Rattle.sm_types.specs.declared.shared_words.Words.{Words}
@@ -21,7 +22,6 @@ use Rattle.kernel_contexts.specs.Guest.{Guest, guest_of}
 use Rattle.world_core.specs.Finish.{AreThreadsOf}
 use Rattle.world_core.specs.Kept.{Stands, IsKept, HasStopped}
 use Rattle.world_core.specs.World.{World, threads_of}
-use Rattle.world_core.proofs.Lists.{get_back}
 
 -- a thread that goes on has made few turns
 running_few : (program : Program) (config : Config) (thread : ℕ) (journal : List Event) (s : State) (stop : Option Stop)
@@ -69,7 +69,7 @@ module _ (program : Program) (config : Config) (w : World) (contexts : List Cont
 
   parts : (t : ℕ) (journal : List Event) → slice_get (map journal_of contexts) t ≡ Some journal → part_of t w.history ≡ journal
   parts t journal get =
-      let found = get_back journal_of contexts t journal get in
+      let found = slice_get_from_map journal_of contexts t journal get in
       let s = stood t found.0 found.1 in
       let number = (e.each t found.0 found.1).number_of in
       ap (λ (n : ℕ). part_of n w.history) (sym number) ∙ s.0.part ∙ found.2

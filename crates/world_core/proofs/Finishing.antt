@@ -9,6 +9,7 @@ use Rattle.std.proofs.lemmas.List.Elements.{Contains-append_left, Contains-appen
 use Rattle.std.proofs.lemmas.List.FromFn.{length-range_with_len, get_or-range_with_len}
 use Rattle.std.proofs.lemmas.List.Sorted.{IsPermutation-sym, IsPermutation-map, Contains-permutation}
 use Rattle.std.proofs.lemmas.Option.{same_Some, slice_get-map, slice_get-get_or, slice_get_within}
+use Rattle.plain_lemmas.proofs.Lists.{slice_get_from_map}
 use Rattle.kernel_contexts.specs.Context.{thread_of, is_home}
 use Rattle.kernel_contexts.specs.declared.context.Context.{Context}
 use Rattle.kernel_contexts.specs.Guest.{Guest, guest_of}
@@ -16,7 +17,7 @@ use Rattle.thread_lists.specs.Counts.{total, once_below}
 use Rattle.thread_lists.proofs.Sums.{total-append}
 use Rattle.world_core.specs.Finish.{IsPlaced}
 use Rattle.world_core.specs.World.{World, threads_of, residents_of, times, IsOwned}
-use Rattle.world_core.proofs.Lists.{get_back, among_itself}
+use Rattle.world_core.proofs.Lists.{among_itself}
 
 module _ (w : World) (all : List Guest) (is : all ≡ (w.done ++ w.queue) ++ residents_of w.cores) where
   pub all_once : IsOwned w → (t : ℕ) → times t all ≡ once_below t w.config.threads
@@ -46,7 +47,7 @@ module _ (w : World) (all : List Guest) (is : all ≡ (w.done ++ w.queue) ++ res
 pub all_home : {X : Type 0} (context : X → Context) → ((x : X) → is_home (context x) ≡ true) → (xs : List X) (contexts : List Context)
     → contexts ≡ map context xs → (k : ℕ) (c : Context) → slice_get contexts k ≡ Some c → is_home c ≡ true
 all_home context home xs contexts are k c get =
-    let found = get_back context xs k c (ap (λ l. slice_get l k) (sym are) ∙ get) in ap is_home (sym found.2) ∙ home found.0
+    let found = slice_get_from_map context xs k c (ap (λ l. slice_get l k) (sym are) ∙ get) in ap is_home (sym found.2) ∙ home found.0
 
 -- and in the order of their threads' numbers
 
@@ -68,7 +69,7 @@ module _ {X : Type 0} (context : X → Context) (home : (x : X) → is_home (con
       → IsPlaced (map (λ x. guest_of (context x)) all) k c
   placed contexts are k c get =
       let guest = λ (x : X). guest_of (context x) in
-      let found = get_back context sorted k c (ap (λ l. slice_get l k) (sym are) ∙ get) in
+      let found = slice_get_from_map context sorted k c (ap (λ l. slice_get l k) (sym are) ∙ get) in
       let x = found.0 in
       let at = found.1 in
       let among = Contains-permutation (map guest sorted) (map guest all) (guest x)

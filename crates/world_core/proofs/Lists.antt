@@ -1,8 +1,7 @@
 -- Lists of which an item is taken or to which one is added.
-use Rattle.std.proofs.Common.{◌≡◌, ℕ, zero, suc, ◌+◌, ◌<◌, ◌++◌, get_or, List, [], ◌∷◌, map, take, drop, length, refl, ap, sym, ◌∙◌}
+use Rattle.std.proofs.Common.{◌≡◌, ℕ, zero, suc, ◌+◌, ◌++◌, List, [], ◌∷◌, map, take, length, ap, sym}
 use Rattle.std.proofs.Common.{subst, arith, Some, append_assoc}
 use Rattle.std.specs.Prelude.{slice_get, Contains, ◌==◌, if◌then◌else◌}
-use Rattle.std.proofs.Math.Seq.{drop-cons}
 use Rattle.std.proofs.lemmas.Bool.Decides.{nat_tests}
 use Rattle.std.proofs.lemmas.List.Elements.{Contains-append_right}
 use Rattle.std.proofs.lemmas.Option.{same_Some, none-some, slice_get_past}
@@ -20,19 +19,9 @@ pub front_of : {X : Type 0} (xs : List X) (x : X) → slice_get xs 0 ≡ Some x 
 front_of [] x get = absurd (none-some x get)
 front_of (y ∷ ys) x get = (ys, ap (λ z. z ∷ ys) (same_Some y x get))
 
--- what an image was made of
-pub get_back : {A B : Type 0} (f : A → B) (xs : List A) (i : ℕ) (y : B) → slice_get (map f xs) i ≡ Some y
-    → (x : A) × (slice_get xs i ≡ Some x) × (f x ≡ y)
-get_back f [] i y get = absurd (none-some y get)
-get_back f (x ∷ xs) zero y get = (x, refl, same_Some (f x) y get)
-get_back f (x ∷ xs) (suc i) y get = get_back f xs i y get
-
 -- each item is among the images of all
 pub among_itself : {X Y : Type 0} (f : X → Y) (xs : List X) (i : ℕ) (x : X) → slice_get xs i ≡ Some x → Contains (map f xs) (f x)
 among_itself f [] i x get = absurd (none-some x get)
 among_itself f (y ∷ ys) zero x get =
     (0, omega arith, ap f (same_Some y x get))
 among_itself f (y ∷ ys) (suc i) x get = Contains-append_right (f y ∷ []) (map f ys) (f x) (among_itself f ys i x get)
-
-pub drop_at : {X : Type 0} (xs : List X) (i : ℕ) (d : X) → i < length xs → drop i xs ≡ get_or xs i d ∷ drop (i + 1) xs
-drop_at xs i d l = let e : suc i ≡ i + 1 = omega arith in drop-cons xs i d l ∙ ap (λ (n : ℕ). get_or xs i d ∷ drop n xs) e

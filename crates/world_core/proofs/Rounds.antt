@@ -5,6 +5,7 @@ use Rattle.std.specs.Prelude.{slice_get, slice_set, nat_lt, nat_le, ◌&&◌}
 use Rattle.std.proofs.lemmas.Bool.Decides.{nat_tests}
 use Rattle.std.proofs.lemmas.List.{length_push}
 use Rattle.std.proofs.lemmas.Option.{none-some}
+use Rattle.std.proofs.lemmas.Bool.{ltb-true, and_parts}
 use Rattle.sm_types.specs.declared.config.Config.{Config}
 use Rattle.paged_memory.specs.Image.{Program}
 use Rattle.core_unit.specs.CoreState.{places}
@@ -26,7 +27,7 @@ use Rattle.world_core.specs.declared.event.Applied.TheVariants as applied
 use Rattle.world_core.specs.declared.event.Why.TheVariants.{CoreFull}
 use Rattle.world_core.specs.declared.serial.Phase.{Phase}
 use Rattle.world_core.specs.declared.serial.Phase.TheVariants.{Fills, GivesWay}
-use Rattle.world_core.proofs.Serials.{HasCore, has_core, some_of, both_of, below_of, none_comes, comes_in, on_core_0, all_done}
+use Rattle.world_core.proofs.Serials.{HasCore, has_core, some_of, none_comes, comes_in, on_core_0, all_done}
 use Rattle.world_core.proofs.UnderWay.{start_core}
 
 -- ---- which event comes
@@ -44,14 +45,14 @@ filled_test queue residents test = by (nat_lt 0 queue) refl test where
 
 runs_in : (slice queue residents : ℕ) (e : WorldEvent) (some : Bool) → (queue ≡ 0) ⊎ (places ≤ residents) → nat_lt 0 residents ≡ some
     → cond some (Some (Run 0 slice)) None ≡ Some e → Filling slice queue residents e
-runs_in slice queue residents e true full test is = Runs full (below_of 0 residents test) (some_of (Run 0 slice) e is)
+runs_in slice queue residents e true full test is = Runs full (ltb-true 0 residents test) (some_of (Run 0 slice) e is)
 runs_in slice queue residents e false full test is = absurd (none-some e is)
 
 fills_in : (slice queue residents : ℕ) (e : WorldEvent) (fetch : Bool) → (nat_lt 0 queue && nat_lt residents places) ≡ fetch
     → cond fetch (Some (Fetch 0)) (cond (nat_lt 0 residents) (Some (Run 0 slice)) None) ≡ Some e → Filling slice queue residents e
 fills_in slice queue residents e true test is =
-    let parts = both_of (nat_lt 0 queue) (nat_lt residents places) test in
-    Fetches (below_of 0 queue parts.0) (below_of residents places parts.1) (some_of (Fetch 0) e is)
+    let parts = and_parts (nat_lt 0 queue) (nat_lt residents places) test in
+    Fetches (ltb-true 0 queue parts.0) (ltb-true residents places parts.1) (some_of (Fetch 0) e is)
 fills_in slice queue residents e false test is =
     runs_in slice queue residents e (nat_lt 0 residents) (filled_test queue residents test) refl is
 
@@ -72,7 +73,7 @@ moves_in slice queue residents e false none test is = Goes none (grind (arith, n
 gives_in : (slice queue residents : ℕ) (e : WorldEvent) (offer : Bool) → nat_lt 0 queue ≡ offer
     → cond offer (Some (Offer 0)) (cond (nat_le 2 residents) (Some (Next 0)) (event_in Fills slice queue residents)) ≡ Some e
     → Giving slice queue residents e
-gives_in slice queue residents e true test is = Offers (below_of 0 queue test) (some_of (Offer 0) e is)
+gives_in slice queue residents e true test is = Offers (ltb-true 0 queue test) (some_of (Offer 0) e is)
 gives_in slice queue residents e false test is =
     let none : queue ≡ 0 = grind (arith, nat_tests) in moves_in slice queue residents e (nat_le 2 residents) none refl is
 

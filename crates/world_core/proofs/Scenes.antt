@@ -1,6 +1,6 @@
 -- The events on a core that move threads, by its residents.
-use Rattle.std.proofs.Common.{◌≡◌, true, false, ℕ, zero, suc, ◌<◌, ◌≤◌, ◌++◌, cond, List, [], ◌∷◌, length, refl, ap, sym, ◌∙◌, arith, Some}
-use Rattle.std.specs.Prelude.{nat_le, slice_get, slice_index_or}
+use Rattle.std.proofs.Common.{◌≡◌, true, false, ℕ, suc, ◌<◌, ◌≤◌, ◌++◌, cond, List, [], ◌∷◌, length, refl, ap, sym, ◌∙◌, arith}
+use Rattle.std.specs.Prelude.{nat_le}
 use Rattle.std.proofs.lemmas.Bool.Decides.{nat_tests}
 use Rattle.std.proofs.lemmas.List.{map-append}
 use Rattle.sm_types.specs.declared.shared_words.Entry.{Entry}
@@ -102,14 +102,3 @@ module _ {T : Type 0} (old new : CoreState T) (queue done : List Guest) (history
   offer_so longer h is last =
       ap (λ (c : CoreState T). on_core (event.Offer n) (scene_with c queue done history)) is
       ∙ ap (λ (l : List Guest). becomes (scene_with new l done history)) (sym last)
-
--- ---- lists
-
-pub none_in : {A : Type 0} (xs : List A) → length xs ≡ 0 → xs ≡ []
-none_in [] e = refl
-none_in (x ∷ xs) e = absurd (omega (arith, e))
-
-pub found_at : {A : Type 0} (xs : List A) (i : ℕ) (x : A) → i < length xs → x ≡ slice_index_or xs i x → slice_get xs i ≡ Some x
-found_at [] i x l e = absurd (omega arith)
-found_at (y ∷ ys) zero x l e = ap (λ z. Some z) (sym e)
-found_at (y ∷ ys) (suc i) x l e = found_at ys i x (omega arith) e

@@ -4,8 +4,9 @@ use Rattle.std.proofs.Common.{refl, ap, sym, ◌∙◌, subst, arith, Option, So
 use Rattle.std.specs.Prelude.{slice_get, slice_set, nat_lt, nat_le, ◌&&◌, is_some}
 use Rattle.std.proofs.lemmas.Bool.Decides.{nat_tests}
 use Rattle.std.proofs.lemmas.Option.{same_Some, none-some}
-use Rattle.std.proofs.lemmas.List.{append-nil, length_push}
+use Rattle.std.proofs.lemmas.List.{append-nil, length_push, nil_from_length}
 use Rattle.std.proofs.Math.Nat.{mul-le-mul_right, suc-mul}
+use Rattle.std.proofs.lemmas.Bool.{ltb-true, and_parts}
 use Rattle.sm_types.specs.declared.config.Config.{Config}
 use Rattle.sm_types.specs.declared.stop.Stop.{Stop}
 use Rattle.shared_region.specs.History.{ends_in}
@@ -65,24 +66,16 @@ pub data Comes (phase : Phase) (slice queued resident : ℕ) (e : WorldEvent) : 
 pub some_of : (x e : WorldEvent) → ◌≡◌ {A = Option WorldEvent} (Some x) (Some e) → e ≡ x
 some_of x e is = sym (same_Some x e is)
 
-pub both_of : (a b : Bool) → (a && b) ≡ true → (a ≡ true) × (b ≡ true)
-both_of true true e = (refl, refl)
-both_of true false e = (refl, e)
-both_of false b e = (e, cc)
-
-pub below_of : (a b : ℕ) → nat_lt a b ≡ true → a < b
-below_of a b e = grind (arith, nat_tests)
-
 runs_in : (phase : Phase) (slice queued resident : ℕ) (e : WorldEvent) (some : Bool) → nat_lt 0 resident ≡ some
     → cond some (Some (Run 0 slice)) None ≡ Some e → Comes phase slice queued resident e
-runs_in phase slice queued resident e true test is = Runs (some_of (Run 0 slice) e is) (below_of 0 resident test)
+runs_in phase slice queued resident e true test is = Runs (some_of (Run 0 slice) e is) (ltb-true 0 resident test)
 runs_in phase slice queued resident e false test is = absurd (none-some e is)
 
 fills_in : (phase : Phase) (slice queued resident : ℕ) (e : WorldEvent) (fetch : Bool) → (nat_lt 0 queued && nat_lt resident places) ≡ fetch
     → cond fetch (Some (Fetch 0)) (cond (nat_lt 0 resident) (Some (Run 0 slice)) None) ≡ Some e → Comes phase slice queued resident e
 fills_in phase slice queued resident e true test is =
-    let parts = both_of (nat_lt 0 queued) (nat_lt resident places) test in
-    Fetches (some_of (Fetch 0) e is) (below_of 0 queued parts.0) (below_of resident places parts.1)
+    let parts = and_parts (nat_lt 0 queued) (nat_lt resident places) test in
+    Fetches (some_of (Fetch 0) e is) (ltb-true 0 queued parts.0) (ltb-true resident places parts.1)
 fills_in phase slice queued resident e false test is = runs_in phase slice queued resident e (nat_lt 0 resident) refl is
 
 moves_in : (slice queued resident : ℕ) (e : WorldEvent) (next : Bool)
@@ -172,18 +165,14 @@ residents_all [] rs get none = absurd (none-some rs get)
 residents_all (gs ∷ cores) rs get none =
     ap (λ (l : List Guest). gs ++ l) none ∙ append-nil gs ∙ same_Some gs rs get
 
-nothing_in : (gs : List Guest) → length gs ≡ 0 → gs ≡ []
-nothing_in [] e = refl
-nothing_in (g ∷ gs) e = absurd (omega (arith, e))
-
 -- where no event comes, all threads are done
 pub all_done : (w : World) (phase : Phase) → HasCore w → serial_event w phase ≡ None → threads_of w ≡ w.done
 all_done w phase h is =
     let counted : event_in phase w.config.slice (length w.queue) (length h.residents) ≡ None =
     ap (λ (found : Option (List Guest)). event_in phase w.config.slice (length w.queue) (length (residents_at found))) (sym h.first) ∙ is in
     let none = none_comes phase w.config.slice (length w.queue) (length h.residents) counted in
-    let residents = residents_all w.cores h.residents h.first h.others ∙ nothing_in h.residents none.1 in
-    ap (λ (l : List Guest). l ++ residents_of w.cores ++ w.done) (nothing_in w.queue none.0)
+    let residents = residents_all w.cores h.residents h.first h.others ∙ nil_from_length h.residents none.1 in
+    ap (λ (l : List Guest). l ++ residents_of w.cores ++ w.done) (nil_from_length w.queue none.0)
     ∙ ap (λ (l : List Guest). l ++ w.done) residents
 
 -- ---- the work that is left

@@ -1,8 +1,8 @@
 -- A course over the answers that a port gave is the service of the word rule, where the history is legal.
 use Rattle.std.proofs.Common.{◌≡◌, Bool, true, false, cond, ℕ, zero, suc, ◌+◌, ◌++◌, List, [], ◌∷◌, length, take, refl, ap, sym, ◌∙◌}
 use Rattle.std.proofs.Common.{subst, Option, Some, None, append_assoc}
-use Rattle.std.specs.Prelude.{slice_get}
 use Rattle.std.proofs.lemmas.List.{append-nil, length_push, map-append}
+use Rattle.plain_lemmas.proofs.Lists.{slice_get-mid}
 use Rattle.sm_types.specs.SharedOps.{is_same_op}
 use Rattle.sm_types.specs.declared.shared_op.SharedOp.{SharedOp}
 use Rattle.sm_types.specs.declared.config.Config.{Config}
@@ -22,10 +22,6 @@ use Rattle.core_unit.specs.Run.{course_at}
 use Rattle.world_core.specs.Serve.{Progress, Service, Going, GaveWay, HasStopped, progress_after, service_after, served, serve, begins}
 use Rattle.lone_runner.proofs.SameOps.{same_op}
 
-get_mid : (before after : List Entry) (e : Entry) → slice_get (before ++ e ∷ after) (length before) ≡ Some e
-get_mid [] after e = refl
-get_mid (x ∷ xs) after e = get_mid xs after e
-
 take_mid : (before after : List Entry) (e : Entry) → take (length before) (before ++ e ∷ after) ≡ before
 take_mid [] after e = refl
 take_mid (x ∷ xs) after e = ap (λ (l : List Entry). x ∷ l) (take_mid xs after e)
@@ -34,7 +30,7 @@ take_mid (x ∷ xs) after e = ap (λ (l : List Entry). x ∷ l) (take_mid xs aft
 legal_at : (w : Words) (before after : List Entry) (e : Entry) → AnswersFrom w (before ++ e ∷ after)
     → e.event.answer ≡ answer_to (words_after w before) e.event.op
 legal_at w before after e h =
-    h (length before) e (get_mid before after e)
+    h (length before) e (slice_get-mid before after e)
     ∙ ap (λ l. answer_to (words_after w l) e.event.op) (take_mid before after e)
 
 module _ (config : Config) (thread : ℕ) (s : State) (stop : Option Stop) (journal : List Event) (history : List Entry)

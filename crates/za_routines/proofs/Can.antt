@@ -1,5 +1,6 @@
 -- Whether a thread stands where the words can be run.
-use Rattle.std.proofs.Common.{◌≡◌, ◌↔◌, ℕ, List, Bool, true, IsTrue, Option, Some, length, refl, ap, sym, ◌∙◌, subst}
+use Rattle.std.proofs.Common.{◌≡◌, ◌↔◌, ℕ, List, Bool, true, IsTrue, length, refl, ap, sym, ◌∙◌, subst}
+use Rattle.plain_lemmas.proofs.Options.{one_Some}
 use Rattle.sm_types.specs.declared.config.Config.{Config}
 use Rattle.paged_memory.specs.Memory.{bytes_with}
 use Rattle.scalar_exec.specs.Registers.{x_of}
@@ -7,9 +8,6 @@ use Rattle.kernel_contexts.specs.State.{State}
 use Rattle.lazy_saving.specs.Dormant.{Places, IsReady}
 use Rattle.lazy_saving.specs.Outcome.{disable_length, instructions_past}
 use Rattle.za_routines.specs.Turns.{IsQuiet, CanDisableAt, CanReturnAt, IsHalfOf}
-
-same_bytes : (o : Option (List ℕ)) (one other : List ℕ) → o ≡ Some one → o ≡ Some other → one ≡ other
-same_bytes o one other e f = cc
 
 module _ (p : Places) (config : Config) (s : State) (block : List ℕ) (turns : ℕ) (r : Bool)
     (quiet : IsTrue r ↔ IsQuiet config s turns) where
@@ -23,7 +21,7 @@ module _ (p : Places) (config : Config) (s : State) (block : List ℕ) (turns : 
       quiet = subst (λ n. IsQuiet config s n) count (quiet.0 t);
     },
     λ h.
-        let same = same_bytes (bytes_with 4 s.core.memory s.core.tpidr2 16) h.dormant.bytes block h.dormant.ready.block.read
+        let same = one_Some (bytes_with 4 s.core.memory s.core.tpidr2 16) h.dormant.bytes block h.dormant.ready.block.read
         ready.block.read in
         quiet.1 (subst (λ n. IsQuiet config s n) (ap disable_length same ∙ sym count) h.quiet),
   )
@@ -39,7 +37,7 @@ module _ (p : Places) (config : Config) (s : State) (block : List ℕ) (turns : 
       quiet = subst (λ n. IsQuiet config s n) count (quiet.0 t);
     },
     λ h.
-        let same = same_bytes (bytes_with 4 s.core.memory (x_of s.core.scalars 19) 16) h.bytes block h.back.ready.block.read
+        let same = one_Some (bytes_with 4 s.core.memory (x_of s.core.scalars 19) 16) h.bytes block h.back.ready.block.read
         ready.block.read in
         quiet.1 (subst (λ n. IsQuiet config s n) (ap (instructions_past s.core.za_on) same ∙ sym count) h.quiet),
   )

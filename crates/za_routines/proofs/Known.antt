@@ -1,6 +1,7 @@
 -- What is known of a call of the routines before its turns.
-use Rattle.std.proofs.Common.{◌≡◌, ℕ, ◌<◌, ◌≤◌, Bool, true, false, List, length, Option, Some, refl, ap, sym, ◌∙◌, subst}
+use Rattle.std.proofs.Common.{◌≡◌, ℕ, ◌<◌, ◌≤◌, Bool, true, false, List, length, Some, refl, ap, sym, ◌∙◌, subst}
 use Rattle.std.specs.Prelude.{is_some, Result, Ok, Err, IfErr}
+use Rattle.plain_lemmas.proofs.Options.{one_Some}
 use Rattle.sm_types.specs.declared.config.Config.{Config}
 use Rattle.paged_memory.specs.Memory.{bytes_with}
 use Rattle.scalar_exec.specs.Registers.{x_of}
@@ -23,13 +24,10 @@ whole_of s size count square small = record {
   small = subst (λ n. n ≤ 256) (sym square.count) small;
 }
 
-same_state : (o : Option ProcessorState) (s t : ProcessorState) → o ≡ Some s → o ≡ Some t → s ≡ t
-same_state o s t e f = cc
-
 -- two names of so many instructions
 same_end : (vl n k : ℕ) (s t u : ProcessorState) → n ≡ k → after_instructions vl n s ≡ Some t → Runs vl k s u → u ≡ t
 same_end vl n k s t u e after runs =
-    same_state (after_instructions vl n s) u t (ap (λ i. after_instructions vl i s) e ∙ runs) after
+    one_Some (after_instructions vl n s) u t (ap (λ i. after_instructions vl i s) e ∙ runs) after
 
 way_of : (config : Config) (n k : ℕ) (s t : State) → n ≡ k → IsOnTheWay config n s t → IsOnTheWay config k s t
 way_of config n k s t e h = record { turns = h.turns; fewer = subst (λ i. h.turns < i) e h.fewer; after = h.after }

@@ -2,35 +2,22 @@
 use Rattle.std.proofs.Common.{◌≡◌, ◌⊎◌, inl, inr, ℕ, ◌+◌, ◌-◌, ◌*◌, ◌/◌, ◌%◌, ◌^◌, ◌<◌, ◌≤◌, ◌==◌, Bool, true, false, None}
 use Rattle.std.proofs.Common.{◌↔◌, IsTrue, refl, ap, ◌∙◌, arith}
 use Rattle.std.specs.Prelude.{nat_le, nat_lt}
-use Rattle.std.proofs.lemmas.Bool.Decides.{nat_tests}
 use Rattle.std.proofs.lemmas.Nat.{div-add-mod', mod-mul-add, mod_below}
+use Rattle.std.proofs.lemmas.Bool.{ltb-true, le-leb, leb-true}
+use Rattle.plain_lemmas.proofs.Numbers.{cases_le}
+use Rattle.plain_lemmas.proofs.Tests.{eqb-zero_of_pos}
 use Rattle.mem_access.specs.Runs.{first_shared}
 use Rattle.mem_access.proofs.Shared.{shared-above, first_shared-none, none_below, first_of_them, first_itself}
 use Rattle.lazy_saving.specs.Block.{AreApart}
 
 -- ---- tests of numbers
 
-le_or : (n m : ℕ) → (n ≤ m) ⊎ (m < n)
-le_or n m = grind arith
-
-at_most : (n m : ℕ) → nat_le n m ≡ true → n ≤ m
-at_most n m e = grind (arith, nat_tests)
-
-above : (n m : ℕ) → n ≤ m → nat_le n m ≡ true
-above n m le = grind (arith, nat_tests)
-
 -- what holds exactly where the one number is at most the other
 le_iff : (n m : ℕ) (P : Type 0) → (n ≤ m → P) → (m < n → P → ⊥) → IsTrue (nat_le n m) ↔ P
 le_iff n m P within past = (
-  λ t. within (at_most n m t),
-  λ h. elim (le_or n m) [ inl le ↦ above n m le | inr lt ↦ absurd (past lt h) ],
+  λ t. within (leb-true n m t),
+  λ h. elim (cases_le n m) [ inl le ↦ le-leb n m le | inr lt ↦ absurd (past lt h) ],
 )
-
-less : (n m : ℕ) → nat_lt n m ≡ true → n < m
-less n m e = grind (arith, nat_tests)
-
-pub is_not_zero : (n : ℕ) → (n ≡ 0 → ⊥) → (n == 0) ≡ false
-is_not_zero n h = grind (arith, nat_tests)
 
 pub never : (b : Bool) → b ≡ false → IsTrue b → ⊥
 never true e t = cc
@@ -71,7 +58,7 @@ none_at_all a n none = first_shared-none a n (λ k l. absurd (omega (arith, none
 pub private_never : (a n : ℕ) → 0x7F0000000000 ≤ a → a < 0x7F0000001000 → 0 < n → IsTrue (nat_lt a 0x7F0000000000)
     ↔ (first_shared a n ≡ None)
 private_never a n inside below some = (
-  λ t. (let low = less a 0x7F0000000000 t in absurd (omega (arith, inside, low))),
+  λ t. (let low = ltb-true a 0x7F0000000000 t in absurd (omega (arith, inside, low))),
   λ none. absurd (is_shared_there a n some below (inl inside) none),
 )
 
@@ -116,12 +103,9 @@ in_slice count slice n lt =
     let same : count + n ≡ count / slice * slice + (count % slice + n) = omega (arith, parts) in
     ap (λ k. k % slice) same ∙ mod-mul-add (count / slice) slice (count % slice + n) lt
 
-not_zero : (n : ℕ) → 0 < n → (n == 0) ≡ false
-not_zero n lt = grind (arith, nat_tests)
-
 pub stays_if : (count turns slice : ℕ) → count % slice + turns ≤ slice → (n : ℕ) → 0 < n → n < turns → ((count + n) % slice == 0) ≡ false
 stays_if count turns slice fits n some lt =
-    ap (λ k. (k == 0)) (in_slice count slice n (omega (arith, fits, lt))) ∙ not_zero (count % slice + n) (omega (arith, some))
+    ap (λ k. (k == 0)) (in_slice count slice n (omega (arith, fits, lt))) ∙ eqb-zero_of_pos (count % slice + n) (omega (arith, some))
 
 next_slice : (count slice : ℕ) → 0 < slice → (count + (slice - count % slice)) % slice ≡ 0
 next_slice count slice some =

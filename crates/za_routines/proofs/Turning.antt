@@ -1,7 +1,6 @@
 -- A turn in which nothing but an instruction is due.
 use Rattle.std.proofs.Common.{◌≡◌, ℕ, suc, ◌+◌, ◌-◌, ◌%◌, ◌<◌, ◌≤◌, ◌==◌, ◌&&◌, Bool, true, false}
-use Rattle.std.proofs.Common.{List, [], ◌∷◌, ◌++◌, length, Option, Some, None, refl, ap, ap₂, sym, ◌∙◌, arith, subst}
-use Rattle.std.proofs.lemmas.List.{append-nil}
+use Rattle.std.proofs.Common.{List, [], ◌∷◌, length, Option, Some, None, refl, ap, ap₂, sym, ◌∙◌, arith, subst}
 use Rattle.std.specs.Prelude.{IsSome, option_and_then, nat_lt}
 use Rattle.std.proofs.lemmas.Bool.Decides.{nat_tests}
 use Rattle.sm_types.specs.declared.config.Config.{Config}
@@ -207,9 +206,3 @@ module _ (config : Config) (made all : ℕ) (first : State) (refusals : Refusals
       let r = stayed refusals (turn_at old) (state_of old) (state_of new) next.0 (made_by old new) (stop_of new) turn
       (is_turn (stop_of old) refusals old new turn runs h) next.1 run in
       record { state = r.0; runs = r.2; none = r.1 }
-
-no_more : {A : Type 0} (xs ys made : List A) → ys ≡ xs ++ made → made ≡ [] → ys ≡ xs
-no_more xs ys made grows none = grows ∙ ap (λ (l : List _). xs ++ l) none ∙ append-nil xs
-
-pub journal_stays : (journal longer made : List Event) → longer ≡ journal ++ made → made ≡ [] → longer ≡ journal
-journal_stays journal longer made grows none = no_more journal longer made grows none

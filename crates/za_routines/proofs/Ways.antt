@@ -1,9 +1,9 @@
 -- A thread that comes from instruction to instruction so makes instructions between which memory outside the area
 -- changes, and nothing else.
-use Rattle.std.proofs.Common.{◌≡◌, ℕ, suc, ◌+◌, ◌<◌, ◌≤◌, ◌==◌, Bool, true, false, cond, List, [], ◌∷◌}
+use Rattle.std.proofs.Common.{◌≡◌, ℕ, suc, ◌+◌, ◌<◌, ◌≤◌, Bool, true, false, cond, List, [], ◌∷◌}
 use Rattle.std.proofs.Common.{refl, ap, sym, ◌∙◌, arith, subst}
-use Rattle.std.specs.Prelude.{◌≢◌, nat_le}
-use Rattle.std.proofs.lemmas.Bool.Decides.{nat_tests}
+use Rattle.std.specs.Prelude.{nat_le}
+use Rattle.std.proofs.lemmas.Bool.{ne_eqb}
 use Rattle.sm_types.specs.SharedOps.{is_same_op}
 use Rattle.sm_types.specs.declared.config.Config.{Config}
 use Rattle.sm_types.specs.declared.shared_op.SharedOp.{SharedOp}
@@ -52,15 +52,12 @@ asked_state before s t events op next used used' left left' h = choose (nat_le 2
     choose true h = (let none : ⊥ = cc in absurd none)
     choose false h = answered_state s t op next used used' left left' h
 
-not_at : (n k : ℕ) → n ≢ k → (n == k) ≡ false
-not_at n k h = grind (arith, nat_tests)
-
 -- a poll leaves what an instruction sees
 poll_turn : (config : Config) (thread : ℕ) (p q : Place) → IsPollTurn config thread p q → q.state.core ≡ p.state.core
 unfolding turn_of
 poll_turn config thread p q h =
     let polls : turn_of config thread p.used p.state ≡ poll_of thread p.used p.state =
-    rw (not_at p.state.count config.budget h.within, h.due) refl in
+    rw (ne_eqb p.state.count config.budget h.within, h.due) refl in
     let it = asked_state p.state p.state q.state p.used (poll_op thread) (polled_with p.state) p.used q.used p.left q.left
     (sym (ap (after_turn p.state p.used p.left) polls) ∙ one_turn config thread p q h.turn) in
     ap (λ (s : State). s.core) (sym it.1)
@@ -71,7 +68,7 @@ own_turn : (config : Config) (thread : ℕ) (p q : Place) (u : ProcessorState) �
 unfolding turn_of
 own_turn config thread p q u h is =
     let goes : turn_of config thread p.used p.state ≡ Goes (counted p.state u) =
-    rw (not_at p.state.count config.budget h.next.left, h.next.unpolled, h.undue, is) refl in
+    rw (ne_eqb p.state.count config.budget h.next.left, h.next.unpolled, h.undue, is) refl in
     let same = same_place (counted p.state u) q.state p.used q.used p.left q.left
     (sym (ap (after_turn p.state p.used p.left) goes) ∙ one_turn config thread p q h.turn) in
     ap (λ (s : State). s.core) (sym same)

@@ -5,9 +5,9 @@ ghost use Rattle.shared_region.specs.WordRule.{HasWord};
 ghost use Rattle.kernel_contexts.specs.Asked.{refused_turn};
 
 use crate::context::Turn;
-use crate::guest::{GuestThread, JOURNAL_LIMIT};
+use crate::guest::GuestThread;
 use shared_region::{Port, PortStop};
-use sm_types::{Event, OpKind, SharedOp, Stop};
+use sm_types::{Event, JOURNAL_LIMIT, OpKind, SharedOp, Stop};
 
 /// Why an operation was not made; nothing has changed.
 #[derive(Clone, Copy)]
@@ -55,7 +55,7 @@ impl GuestThread {
         ensures grows { Grows (λ thread events. GivesEvents P.gives P.name P.tells thread events port.old
             ticket.old port.new ticket.new) self.old self.new }
     {
-        if self.events() >= JOURNAL_LIMIT {
+        if self.events() >= JOURNAL_LIMIT as usize {
             return Err(Refusal::Full);
         }
         if self.journal.reserve(1).is_err() {

@@ -14,12 +14,10 @@ use crate::kernel_call::{KernelCall, call_numbered};
 use mem_access::Bank;
 use paged_memory::Pages;
 use shared_region::Port;
-use sm_types::{Access, OpKind, SharedOp, Stop, Version};
+use sm_types::{Access, OUTPUT_LIMIT, OpKind, SharedOp, Stop, Version};
 
 /// The bits of the signals 1 to 62.
 const SIGNALS: u64 = 0x7fff_ffff_ffff_fffe;
-/// The bytes that a thread may write in all.
-const OUTPUT_LIMIT: u64 = 1_048_576;
 /// The answer for a descriptor that is not open: EBADF is 9.
 const BAD_DESCRIPTOR: u64 = u64::MAX - 8;
 /// The answer for bytes that cannot be read: EFAULT is 14.
@@ -337,7 +335,7 @@ impl GuestThread {
         if descriptor != 1 && descriptor != 2 {
             return self.return_with(bank, BAD_DESCRIPTOR);
         }
-        if count > OUTPUT_LIMIT - self.output.len() as u64 {
+        if count > u64::from(OUTPUT_LIMIT) - self.output.len() as u64 {
             return self.stop_with(Stop::OutputFull);
         }
         match append(

@@ -1,15 +1,12 @@
-use Rattle.std.proofs.Common.{◌≡◌, ℕ, zero, suc, ◌+◌, ◌<◌, ◌==◌, Bool, true, false, List, [], ◌∷◌, length, get_or, Some, refl, sym}
+use Rattle.std.proofs.Common.{◌≡◌, ℕ, ◌+◌, ◌<◌, ◌==◌, Bool, true, false, List, [], Some, refl, sym}
 use Rattle.std.proofs.Common.{ap, ◌∙◌, arith, eqb-true}
 use Rattle.std.specs.Prelude.{slice_get}
 use Rattle.std.proofs.lemmas.Bool.{both_ways, eqb-false}
-use Rattle.std.proofs.lemmas.Option.{slice_get-get_or}
+use Rattle.std.proofs.lemmas.Option.{slice_get_within}
+use Rattle.plain_lemmas.proofs.Lists.{slice_get-found}
 use Rattle.insn_forms.specs.declared.line.Line.{Line}
 use Rattle.insn_forms.proofs.Deciding.{some_is}
 use Rattle.a64_encode.proofs.word.line_of.Goals as goal
-
--- an item of a list stands at its place
-here : {A : Type 0} (items : List A) (k : ℕ) (it : A) → k < length items → it ≡ get_or items k it → slice_get items k ≡ Some it
-here items k it lt e = slice_get-get_or items k it lt ∙ ap Some (sym e)
 
 module _ {O : Type 0} (number_of : O → ℕ) where
   more : (lines : List (Line O)) (number k : ℕ) (d : Line O) → slice_get lines k ≡ Some d → (number_of d.operation ≡ number → ⊥)
@@ -23,26 +20,21 @@ module _ {O : Type 0} (number_of : O → ℕ) where
           (some_is (sym found ∙ sym (ap (slice_get lines) (eqb-true place k h)) ∙ g)) ∙ e)
       go false h = let n = eqb-false place k h in before place line (omega arith) g e
 
-there : {A : Type 0} (items : List A) (place : ℕ) (it : A) → slice_get items place ≡ Some it → place < length items
-there [] place it g = cc
-there (r ∷ items) zero it g = omega arith
-there (r ∷ items) (suc place) it g = let lt = there items place it g in omega arith
-
 pub returns-then-has_number : goal.returns-then-has_number
 returns-then-has_number g c =
     record {
       place = c.loop-line.line-index;
-      listed = here c.args.lines.now c.loop-line.line-index c.line-item.result c.loop-line-test.true c.line-item.is;
+      listed = slice_get-found c.args.lines.now c.loop-line.line-index c.line-item.result c.loop-line-test.true c.line-item.is;
       same = c.has_number.ensures.0 c.if-has_number.true;
     }
 
 pub loop-line-preserved : goal.loop-line-preserved
 loop-line-preserved g c =
     more g.O.TableOperation.number c.args.lines.now c.args.number c.loop-line.line-index c.line-item.result
-    (here c.args.lines.now c.loop-line.line-index c.line-item.result c.loop-line-test.true c.line-item.is)
+    (slice_get-found c.args.lines.now c.loop-line.line-index c.line-item.result c.loop-line-test.true c.line-item.is)
     (λ e. both_ways _ c.if-has_number.false (c.has_number.ensures.1 e)) c.loop-line.invariant
 
 pub returns : goal.returns
 returns g c place line h e =
-    let lt = there c.args.lines.now place line h in
+    let lt = slice_get_within c.args.lines.now place line h in
     c.loop-line.invariant place line (omega arith) h e

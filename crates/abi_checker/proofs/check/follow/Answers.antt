@@ -1,4 +1,5 @@
 use Rattle.std.proofs.Common.{◌≡◌, ◌≢◌, ◌∙◌, sym, ap, refl, None}
+use Rattle.plain_lemmas.proofs.Options.{is_some-false}
 use Rattle.kernel_contexts.specs.Context.{config_of, image_of, thread_of}
 use Rattle.lone_runner.specs.Parting.{IsParting, parting_at}
 use Rattle.lone_runner.specs.Replayed.{place_of}
@@ -6,7 +7,7 @@ use Rattle.lone_runner.specs.declared.fault.AloneFault.TheVariants.{Memory}
 use Rattle.lone_runner.specs.declared.fault.AloneFault.{AloneFault}
 use Rattle.lone_runner.proofs.Given.{passed_on}
 use Rattle.lone_runner.proofs.Several.{held_still}
-use Rattle.lone_runner.proofs.Ways.{way_parts, way_strays, none_of, some_of}
+use Rattle.lone_runner.proofs.Ways.{way_parts, way_strays, some_of}
 use Rattle.abi_checker.proofs.Followed.{followed_first, followed_on, somewhere_here, somewhere_next, told_on, checked_if}
 use Rattle.abi_checker.proofs.AtOnce.{by_some, moved}
 use Rattle.abi_checker.proofs.check.follow.Goals as goal
@@ -14,7 +15,7 @@ use Rattle.abi_checker.proofs.check.follow.Goals as goal
 pub turns-init : goal.turns-init
 turns-init c = record {
   followed = followed_first c.args.count c.args.context.now c.args.ticket.now c.args.watch.now c.requires.start c.requires.calls
-      c.requires.returned c.requires.known;
+      c.requires.returned;
   held = c.requires.start.held;
   runs = c.requires.start.runs;
   same = record { config = refl; thread = refl; image = refl };
@@ -55,7 +56,7 @@ answer-requires c =
     c.make_turn.new.context c.make_turn.new.ticket _ c.next_call-call.result c.call_made-past.result c.count-before.result
     c.count.result c.tell.new.self c.in_ok-found.found e.turn c.next_call-call.ensures.some c.next_call-call.ensures.none
     c.count-before.ensures c.count.ensures c.call_made-past.ensures e.same.config
-    c.contexts_are_plain.ensures c.context_is_whole.ensures c.in_ok-found.ensures)
+    c.context_is_whole.ensures c.in_ok-found.ensures)
 
 pub returns-then-is_some-clause-checked : goal.returns-then-is_some-clause-checked
 returns-then-is_some-clause-checked c =
@@ -66,7 +67,7 @@ returns-then-is_some-clause-checked c =
     c.make_turn.new.context c.make_turn.new.ticket _ c.next_call-call.result c.call_made-past.result c.count-before.result
     c.count.result c.tell.new.self c.in_ok-found.found e.turn c.next_call-call.ensures.some c.next_call-call.ensures.none
     c.count-before.ensures c.count.ensures c.call_made-past.ensures e.same.config
-    c.contexts_are_plain.ensures c.context_is_whole.ensures c.in_ok-found.ensures in
+    c.context_is_whole.ensures c.in_ok-found.ensures in
     checked_if _ _ _ _ _ c.turns.context c.turns.ticket h.same.config h.same.thread c.turns.watch c.turns.found h.followed
     c.make_turn.new.context c.make_turn.new.ticket _ c.answer.result (some_of _ (sym c.is_some.ensures ∙ c.if-is_some.true)) e.turn
     (sym c.parting.ensures ∙ c.in-None.is) c.contexts_are_plain.ensures (c.answer.ensures _ _ told)
@@ -77,13 +78,13 @@ go_far-requires-clause-some c =
     let e = c.in_ok-stop.ensures in
     let mid = c.make_turn.new.context in
     let ticket = c.make_turn.new.ticket in
-    let none = none_of _ (sym c.is_some.ensures ∙ c.if-is_some.false) in
+    let none = is_some-false _ (sym c.is_some.ensures ∙ c.if-is_some.false) in
     let told =
     told_on _ _ _ _ _ c.turns.context c.turns.ticket h.same.config h.same.thread c.turns.watch c.turns.found h.followed mid ticket _
     c.next_call-call.result c.call_made-past.result c.count-before.result c.count.result c.tell.new.self c.in_ok-found.found e.turn
     c.next_call-call.ensures.some c.next_call-call.ensures.none c.count-before.ensures c.count.ensures c.call_made-past.ensures
     e.same.config
-    c.contexts_are_plain.ensures c.context_is_whole.ensures c.in_ok-found.ensures in
+    c.context_is_whole.ensures c.in_ok-found.ensures in
     let on : parting_at c.args.count (place_of mid ticket None) ≡ None =
     ap (λ o. parting_at c.args.count (place_of mid ticket o)) (sym none) ∙ sym c.parting.ensures ∙ c.in-None.is in
     by_some _ _ _ _ _ mid ticket c.tell.new.self c.in_ok-found.found (e.same.image ∙ h.same.image) (e.same.config ∙ h.same.config)
@@ -101,13 +102,13 @@ turns-preserved c =
     let mid = c.make_turn.new.context in
     let ticket = c.make_turn.new.ticket in
     let new = c.go_far.new.context in
-    let none = none_of _ (sym c.is_some.ensures ∙ c.if-is_some.false) in
+    let none = is_some-false _ (sym c.is_some.ensures ∙ c.if-is_some.false) in
     let told =
     told_on _ _ _ _ _ c.turns.context c.turns.ticket h.same.config h.same.thread c.turns.watch c.turns.found h.followed mid ticket _
     c.next_call-call.result c.call_made-past.result c.count-before.result c.count.result c.tell.new.self c.in_ok-found.found e.turn
     c.next_call-call.ensures.some c.next_call-call.ensures.none c.count-before.ensures c.count.ensures c.call_made-past.ensures
     e.same.config
-    c.contexts_are_plain.ensures c.context_is_whole.ensures c.in_ok-found.ensures in
+    c.context_is_whole.ensures c.in_ok-found.ensures in
     let on : parting_at c.args.count (place_of mid ticket None) ≡ None =
     ap (λ o. parting_at c.args.count (place_of mid ticket o)) (sym none) ∙ sym c.parting.ensures ∙ c.in-None.is in
     let image = e.same.image ∙ h.same.image in

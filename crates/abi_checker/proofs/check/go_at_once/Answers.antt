@@ -1,6 +1,8 @@
-use Rattle.std.proofs.Common.{◌∙◌, sym}
-use Rattle.abi_checker.proofs.AtOnce.{far_first, far_over, not_over_now, round_followed, round_passes, round_quiet, round_smaller}
-use Rattle.abi_checker.proofs.AtOnce.{round_somewhere, round_stays}
+use Rattle.std.proofs.Common.{◌∙◌, sym, subst}
+use Rattle.std.specs.Prelude.{IfSome}
+use Rattle.kernel_contexts.specs.Context.{state_of}
+use Rattle.abi_checker.specs.Watching.{IsNextWord}
+use Rattle.abi_checker.proofs.AtOnce.{far_first, far_on, fewer, first_followed, not_over, own_followed, quiet_followed, some_followed}
 use Rattle.abi_checker.proofs.check.go_at_once.Goals as goal
 
 pub rounds-init : goal.rounds-init
@@ -9,101 +11,138 @@ rounds-init c = record {
   followed = λ journal ticket h. h;
 }
 
-pub overflow_sub-left : goal.overflow_sub-left
-overflow_sub-left c =
+pub go_to_halt-requires-clause-home : goal.go_to_halt-requires-clause-home
+go_to_halt-requires-clause-home c = c.rounds.invariant.far.home
+
+pub go_to_halt-requires-clause-runs : goal.go_to_halt-requires-clause-runs
+go_to_halt-requires-clause-runs c = c.rounds.invariant.far.stop
+
+pub go_to_halt-requires-clause-some : goal.go_to_halt-requires-clause-some
+go_to_halt-requires-clause-some c =
     let first = c.requires.some in
-    not_over_now _ _ _ _ _ c.rounds.context first.ticket c.rounds.watch _ c.count.result c.count.ensures
+    some_followed c.args.context.now c.rounds.context c.rounds.invariant.far first.journal c.args.count first.ticket c.rounds.watch _
     (c.rounds.invariant.followed first.journal first.ticket first.followed)
 
-pub advance_several-made-requires-clause-home : goal.advance_several-made-requires-clause-home
-advance_several-made-requires-clause-home c = c.rounds.invariant.far.home
-
-pub advance_several-made-requires-clause-runs : goal.advance_several-made-requires-clause-runs
-advance_several-made-requires-clause-runs c = c.rounds.invariant.far.stop
-
-pub returns-then-made-eq0-clause-followed : goal.returns-then-made-eq0-clause-followed
-returns-then-made-eq0-clause-followed c = λ journal ticket h.
-    let far = c.rounds.invariant.far in
-    round_stays _ _ _ _ _ c.rounds.context ticket far.same.config far.same.thread c.rounds.watch
-    (c.rounds.invariant.followed journal ticket h) c.advance_several-made.new.self c.advance_several-made.result c.min.result
-    c.count.result c.advance_several-made.ensures c.next_turns-next.new.self c.next_turns-next.result c.count.ensures c.min.ensures
-    c.next_turns-next.ensures.watched c.if-made-eq0.true
-
-pub returns-then-made-eq0-clause-goes : goal.returns-then-made-eq0-clause-goes
-returns-then-made-eq0-clause-goes c =
-    far_over c.args.context.now c.rounds.context c.advance_several-made.new.self c.min.result c.advance_several-made.result
-    c.rounds.invariant.far c.advance_several-made.ensures
-
-pub tell-requires-clause-somewhere : goal.tell-requires-clause-somewhere
-tell-requires-clause-somewhere c =
-    let far = c.rounds.invariant.far in
-    let first = c.requires.some in
-    round_somewhere _ _ _ _ _ c.rounds.context first.ticket far.same.config far.same.thread c.rounds.watch
-    (c.rounds.invariant.followed first.journal first.ticket first.followed) c.advance_several-made.new.self
-    c.advance_several-made.result c.min.result c.count.result c.advance_several-made.ensures c.next_turns-next.new.self
-    c.next_turns-next.result c.count.ensures c.min.ensures c.next_turns-next.ensures.watched c.count.type_inv
-
-pub returns-in_err-found-clause-goes : goal.returns-in_err-found-clause-goes
-returns-in_err-found-clause-goes c =
-    far_over c.args.context.now c.rounds.context c.advance_several-made.new.self c.min.result c.advance_several-made.result
-    c.rounds.invariant.far c.advance_several-made.ensures
+pub returns-in_err-pause-clause-goes : goal.returns-in_err-pause-clause-goes
+returns-in_err-pause-clause-goes c =
+    far_on c.args.context.now c.rounds.context c.go_to_halt.new.context c.rounds.invariant.far c.go_to_halt.ensures.goes
 
 pub returns-then-is_some-clause-followed : goal.returns-then-is_some-clause-followed
 returns-then-is_some-clause-followed c = λ journal ticket h.
+    let before = c.rounds.invariant.followed journal ticket h in
     let far = c.rounds.invariant.far in
-    round_followed _ _ _ _ _ c.rounds.context ticket far.same.config far.same.thread c.rounds.watch
-    (c.rounds.invariant.followed journal ticket h) c.advance_several-made.new.self c.advance_several-made.result c.min.result
-    c.count.result c.advance_several-made.ensures c.next_turns-next.new.self c.next_turns-next.result c.count.ensures c.min.ensures
-    c.next_turns-next.ensures.watched c.next_turns-next.ensures.planned c.tell.new.self c.in_ok-found.found c.in_ok-found.ensures
-    c.context_is_whole.ensures c.if-made-eq0.false
+    first_followed c.args.context.now c.rounds.context far journal c.args.count ticket c.rounds.watch _ before
+    c.go_to_halt.new.context c.go_to_halt.new.watch c.in_ok-pause.pause.found
+    (c.in_ok-pause.ensures.followed journal ticket
+    (own_followed c.args.context.now c.rounds.context far journal c.args.count ticket c.rounds.watch _ before))
 
 pub returns-then-is_some-clause-goes : goal.returns-then-is_some-clause-goes
 returns-then-is_some-clause-goes c =
-    far_over c.args.context.now c.rounds.context c.advance_several-made.new.self c.min.result c.advance_several-made.result
-    c.rounds.invariant.far c.advance_several-made.ensures
+    far_on c.args.context.now c.rounds.context c.go_to_halt.new.context c.rounds.invariant.far c.go_to_halt.ensures.goes
 
-pub rounds-smaller-then-passes : goal.rounds-smaller-then-passes
-rounds-smaller-then-passes c =
-    let far = c.rounds.invariant.far in
+pub returns-in_default-clause-followed : goal.returns-in_default-clause-followed
+returns-in_default-clause-followed c = λ journal ticket h.
+    quiet_followed c.args.context.now c.rounds.context c.rounds.invariant.far journal c.args.count ticket c.rounds.watch
+    (c.rounds.invariant.followed journal ticket h) c.go_to_halt.new.context c.go_to_halt.new.watch c.in_ok-pause.pause.found
+    (c.in_ok-pause.ensures.followed journal ticket) (sym c.is_some.ensures ∙ c.if-is_some.false)
+
+pub returns-in_default-clause-goes : goal.returns-in_default-clause-goes
+returns-in_default-clause-goes c =
+    far_on c.args.context.now c.rounds.context c.go_to_halt.new.context c.rounds.invariant.far c.go_to_halt.ensures.goes
+
+pub make_halted-requires-clause-home : goal.make_halted-requires-clause-home
+make_halted-requires-clause-home c = c.go_to_halt.ensures.goes.home
+
+pub make_halted-requires-clause-runs : goal.make_halted-requires-clause-runs
+make_halted-requires-clause-runs c = c.go_to_halt.ensures.goes.stop
+
+pub make_halted-requires-clause-some : goal.make_halted-requires-clause-some
+make_halted-requires-clause-some c =
     let first = c.requires.some in
-    round_smaller _ _ _ _ _ c.rounds.context first.ticket far.same.config far.same.thread c.rounds.watch
-    (c.rounds.invariant.followed first.journal first.ticket first.followed) c.advance_several-made.new.self
-    c.advance_several-made.result c.min.result c.count.result c.advance_several-made.ensures c.next_turns-next.new.self
-    c.next_turns-next.result c.count.ensures c.min.ensures c.next_turns-next.ensures.watched c.if-made-eq0.false
-
-pub rounds-preserved-then-passes : goal.rounds-preserved-then-passes
-rounds-preserved-then-passes c =
     let far = c.rounds.invariant.far in
+    some_followed c.args.context.now c.go_to_halt.new.context
+    (far_on c.args.context.now c.rounds.context c.go_to_halt.new.context far c.go_to_halt.ensures.goes) first.journal c.args.count
+    first.ticket c.go_to_halt.new.watch _
+    (quiet_followed c.args.context.now c.rounds.context far first.journal c.args.count first.ticket c.rounds.watch
+    (c.rounds.invariant.followed first.journal first.ticket first.followed) c.go_to_halt.new.context c.go_to_halt.new.watch
+    c.in_ok-pause.pause.found (c.in_ok-pause.ensures.followed first.journal first.ticket)
+    (sym c.is_some.ensures ∙ c.if-is_some.false))
+
+pub make_halted-requires-clause-there : goal.make_halted-requires-clause-there
+make_halted-requires-clause-there c =
+    subst (λ o. IfSome o (IsNextWord (state_of c.go_to_halt.new.context))) c.in-Some.is c.in_ok-pause.ensures.there
+
+pub returns-in_err-found-clause-goes : goal.returns-in_err-found-clause-goes
+returns-in_err-found-clause-goes c =
+    far_on c.args.context.now c.go_to_halt.new.context c.make_halted.new.context
+    (far_on c.args.context.now c.rounds.context c.go_to_halt.new.context c.rounds.invariant.far c.go_to_halt.ensures.goes)
+    c.make_halted.ensures.goes
+
+pub returns-then-is_some-2-clause-followed : goal.returns-then-is_some-2-clause-followed
+returns-then-is_some-2-clause-followed c = λ journal ticket h.
+    let far = c.rounds.invariant.far in
+    let on = far_on c.args.context.now c.rounds.context c.go_to_halt.new.context far c.go_to_halt.ensures.goes in
+    let mid =
+    quiet_followed c.args.context.now c.rounds.context far journal c.args.count ticket c.rounds.watch
+    (c.rounds.invariant.followed journal ticket h) c.go_to_halt.new.context c.go_to_halt.new.watch c.in_ok-pause.pause.found
+    (c.in_ok-pause.ensures.followed journal ticket) (sym c.is_some.ensures ∙ c.if-is_some.false) in
+    first_followed c.args.context.now c.go_to_halt.new.context on journal c.args.count ticket c.go_to_halt.new.watch _ mid
+    c.make_halted.new.context c.make_halted.new.watch c.in_ok-found.found
+    (c.in_ok-found.ensures.followed journal ticket
+    (own_followed c.args.context.now c.go_to_halt.new.context on journal c.args.count ticket c.go_to_halt.new.watch _ mid))
+
+pub returns-then-is_some-2-clause-goes : goal.returns-then-is_some-2-clause-goes
+returns-then-is_some-2-clause-goes c =
+    far_on c.args.context.now c.go_to_halt.new.context c.make_halted.new.context
+    (far_on c.args.context.now c.rounds.context c.go_to_halt.new.context c.rounds.invariant.far c.go_to_halt.ensures.goes)
+    c.make_halted.ensures.goes
+
+pub returns-then-count-before-clause-followed : goal.returns-then-count-before-clause-followed
+returns-then-count-before-clause-followed c = λ journal ticket h.
+    let far = c.rounds.invariant.far in
+    let on = far_on c.args.context.now c.rounds.context c.go_to_halt.new.context far c.go_to_halt.ensures.goes in
+    quiet_followed c.args.context.now c.go_to_halt.new.context on journal c.args.count ticket c.go_to_halt.new.watch
+    (quiet_followed c.args.context.now c.rounds.context far journal c.args.count ticket c.rounds.watch
+    (c.rounds.invariant.followed journal ticket h) c.go_to_halt.new.context c.go_to_halt.new.watch c.in_ok-pause.pause.found
+    (c.in_ok-pause.ensures.followed journal ticket) (sym c.is_some.ensures ∙ c.if-is_some.false))
+    c.make_halted.new.context c.make_halted.new.watch c.in_ok-found.found (c.in_ok-found.ensures.followed journal ticket)
+    (sym c.is_some-in-rounds.ensures ∙ c.if-is_some-2.false)
+
+pub returns-then-count-before-clause-goes : goal.returns-then-count-before-clause-goes
+returns-then-count-before-clause-goes c =
+    far_on c.args.context.now c.go_to_halt.new.context c.make_halted.new.context
+    (far_on c.args.context.now c.rounds.context c.go_to_halt.new.context c.rounds.invariant.far c.go_to_halt.ensures.goes)
+    c.make_halted.ensures.goes
+
+pub rounds-preserved : goal.rounds-preserved
+rounds-preserved c =
+    let far = c.rounds.invariant.far in
+    let on = far_on c.args.context.now c.rounds.context c.go_to_halt.new.context far c.go_to_halt.ensures.goes in
     record {
-      far = far_over c.args.context.now c.rounds.context c.advance_several-made.new.self c.min.result c.advance_several-made.result far
-          c.advance_several-made.ensures;
+      far = far_on c.args.context.now c.go_to_halt.new.context c.make_halted.new.context on c.make_halted.ensures.goes;
       followed = λ journal ticket h.
-          round_passes _ _ _ _ _ c.rounds.context ticket far.same.config far.same.thread c.rounds.watch
-          (c.rounds.invariant.followed journal ticket h) c.advance_several-made.new.self c.advance_several-made.result c.min.result
-          c.count.result c.advance_several-made.ensures c.next_turns-next.new.self c.next_turns-next.result c.count.ensures
-          c.min.ensures c.next_turns-next.ensures.watched c.next_turns-next.ensures.planned c.context_is_whole.ensures
-          c.if-made-eq0.false (c.passes.ensures.call c.if-passes.true) (c.passes.ensures.away c.if-passes.true);
+          quiet_followed c.args.context.now c.go_to_halt.new.context on journal c.args.count ticket c.go_to_halt.new.watch
+          (quiet_followed c.args.context.now c.rounds.context far journal c.args.count ticket c.rounds.watch
+          (c.rounds.invariant.followed journal ticket h) c.go_to_halt.new.context c.go_to_halt.new.watch c.in_ok-pause.pause.found
+          (c.in_ok-pause.ensures.followed journal ticket) (sym c.is_some.ensures ∙ c.if-is_some.false))
+          c.make_halted.new.context c.make_halted.new.watch c.in_ok-found.found (c.in_ok-found.ensures.followed journal ticket)
+          (sym c.is_some-in-rounds.ensures ∙ c.if-is_some-2.false);
     }
 
 pub rounds-smaller : goal.rounds-smaller
 rounds-smaller c =
     let far = c.rounds.invariant.far in
     let first = c.requires.some in
-    round_smaller _ _ _ _ _ c.rounds.context first.ticket far.same.config far.same.thread c.rounds.watch
-    (c.rounds.invariant.followed first.journal first.ticket first.followed) c.advance_several-made.new.self
-    c.advance_several-made.result c.min.result c.count.result c.advance_several-made.ensures c.next_turns-next.new.self
-    c.next_turns-next.result c.count.ensures c.min.ensures c.next_turns-next.ensures.watched c.if-made-eq0.false
-
-pub rounds-preserved : goal.rounds-preserved
-rounds-preserved c =
-    let far = c.rounds.invariant.far in
-    record {
-      far = far_over c.args.context.now c.rounds.context c.advance_several-made.new.self c.min.result c.advance_several-made.result far
-          c.advance_several-made.ensures;
-      followed = λ journal ticket h.
-          round_quiet _ _ _ _ _ c.rounds.context ticket far.same.config far.same.thread c.rounds.watch
-          (c.rounds.invariant.followed journal ticket h) c.advance_several-made.new.self c.advance_several-made.result c.min.result
-          c.count.result c.advance_several-made.ensures c.next_turns-next.new.self c.next_turns-next.result c.count.ensures
-          c.min.ensures c.next_turns-next.ensures.watched c.next_turns-next.ensures.planned c.tell.new.self c.in_ok-found.found
-          c.in_ok-found.ensures c.context_is_whole.ensures c.if-made-eq0.false (sym c.is_some.ensures ∙ c.if-is_some.false);
-    }
+    let on = far_on c.args.context.now c.rounds.context c.go_to_halt.new.context far c.go_to_halt.ensures.goes in
+    let way =
+    quiet_followed c.args.context.now c.go_to_halt.new.context on first.journal c.args.count first.ticket c.go_to_halt.new.watch
+    (quiet_followed c.args.context.now c.rounds.context far first.journal c.args.count first.ticket c.rounds.watch
+    (c.rounds.invariant.followed first.journal first.ticket first.followed) c.go_to_halt.new.context c.go_to_halt.new.watch
+    c.in_ok-pause.pause.found (c.in_ok-pause.ensures.followed first.journal first.ticket)
+    (sym c.is_some.ensures ∙ c.if-is_some.false))
+    c.make_halted.new.context c.make_halted.new.watch c.in_ok-found.found
+    (c.in_ok-found.ensures.followed first.journal first.ticket) (sym c.is_some-in-rounds.ensures ∙ c.if-is_some-2.false) in
+    fewer c.args.count (state_of c.rounds.context).count (state_of c.go_to_halt.new.context).count
+    (state_of c.make_halted.new.context).count c.count-before.result c.count.result c.go_to_halt.ensures.goes.count
+    c.count-before.ensures c.count.ensures c.if-count-before.false c.make_halted.ensures.goes.count
+    (not_over _ _ _ _ _ c.make_halted.new.context first.ticket c.make_halted.new.watch _ way)

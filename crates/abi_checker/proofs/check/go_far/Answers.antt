@@ -9,5 +9,5 @@ returns-then-is_none-clause-followed c = λ journal ticket h.
 
 pub returns-clause-followed : goal.returns-clause-followed
 returns-clause-followed c = λ journal ticket h.
-    found_over _ _ _ _ _ c.args.context.now ticket refl refl c.args.watch.now c.args.found h c.advance_several.new.self
+    found_over _ _ _ _ _ c.args.context.now ticket refl refl c.args.watch.now c.args.found h _ c.advance_several.new.self
     c.advance_several.result c.count.result c.advance_several.ensures c.count.ensures c.if-is_none.ensures

@@ -1,6 +1,7 @@
 use Rattle.std.proofs.Common.{◌≡◌, ◌<◌, ◌-◌, ◌∙◌, ◌∷◌, ℕ, Some, true, false, length, ap, sym, subst, arith}
 use Rattle.std.specs.Prelude.{slice_set}
 use Rattle.std.proofs.lemmas.Grind.{common_steps}
+use Rattle.plain_lemmas.proofs.Lists.{cons_inj_left}
 use Rattle.shared_region.specs.Tickets.{GivesEvents}
 use Rattle.kernel_contexts.specs.Owner.{is_owner}
 use Rattle.kernel_contexts.specs.Context.{thread_of}
@@ -11,7 +12,7 @@ use Rattle.core_unit.specs.Need.{need_in_run}
 use Rattle.core_unit.specs.Owners.{are_apart, numbers_of, moved}
 use Rattle.core_unit.specs.Run.{RunsFirst, answers_of}
 use Rattle.core_unit.proofs.Cores.{cons_of, first_of}
-use Rattle.core_unit.proofs.Owners.{item, threads, apart_threads, held_numbers, told_as, same_heads, same_tails, is_own}
+use Rattle.core_unit.proofs.Owners.{item, threads, apart_threads, held_numbers, told_as, same_tails, is_own}
 use Rattle.core_unit.proofs.Moving.{others_held, others_on, ran_held, ran_on, split_on, split_apart}
 use Rattle.core_unit.proofs.Joining.{runs_here, held_joined, need_joined, owner_stays}
 use Rattle.core_unit.proofs.moves.run_first.Goals as goal
@@ -148,7 +149,7 @@ returns-in-Ended-make_turns-clause-run g c =
     let here = item (λ r. r.context) (λ r. r.ticket) took.new.bank s in
     let next = item (λ r. r.context) (λ r. r.ticket) again.new.bank again.new.resident in
     let whole = ap (held_on (λ r. r.context) (λ r. r.ticket) took.new.bank) (sym after.1) ∙ took.ensures.held ∙ mid in
-    let same : here ≡ now = same_heads here now _ _ whole in
+    let same : here ≡ now = cons_inj_left here now _ _ whole in
     let numbers = held_numbers (λ r. r.context) (λ r. r.ticket) took.new.bank ys in
     let kept = ap (λ l. are_apart (threads (λ r. r.context) (λ r. r.ticket) l)) (sym after.1)
     ∙ ap are_apart (sym numbers) ∙ ap (λ l. are_apart (numbers_of l)) (took.ensures.held ∙ mid)

@@ -88,7 +88,8 @@ turns-preserved g c =
     let given = gives_more g.P.Port.gives g.P.Port.name g.P.Port.tells _ _ _ _ _ _ (thread_of first) (thread_of old) _ (made_by old new) _
     (is_answers was (guest_on bank old) (guest_on after new) c.turns.turns (made_by old new) h.run h.runs later)
     h.same.thread h.gives e.gives in
-    let gone : IsGoneBy (not (owns after (thread_of new))) (guest_on after new) c.advance_several_on-turns.result (guest_on end last) =
+    let gone : IsGoneBy (not (owns after (thread_of new))) (guest_on after new) c.advance_several_on-turns.result.count
+    (guest_on end last) =
     record {
       program = f.same.image;
       config = f.same.config;
@@ -117,12 +118,12 @@ turns-preserved g c =
       few = omega (arith, c.turns-test.true, f.few);
       runs = f.stop;
       run = gone_by (not (owns after (thread_of new))) was (guest_on after new) (guest_on end last) (c.turns.turns + 1)
-          c.advance_several_on-turns.result on.0 gone;
+          c.advance_several_on-turns.result.count on.0 gone;
       quiet = λ apart.
           let here = owned_still c.args.bank.now bank (thread_of first) (thread_of old) h.bank.owner h.same.thread apart in
           let there = owned_still bank after (thread_of old) (thread_of new) e.home.bank.owner e.same.thread here in
           quiet_by (not (owns after (thread_of new))) was (guest_on after new) (guest_on end last) (c.turns.turns + 1)
-          c.advance_several_on-turns.result (ap not there) on.0 gone
+          c.advance_several_on-turns.result.count (ap not there) on.0 gone
           (rw add-one (quiet_on was (guest_on bank old) (guest_on after new) c.turns.turns (made_by old new) h.run h.runs later
           (h.quiet apart) (unneeded_on _ _ old bank new after c.advance_on-turn.result h.runs made here e.turn)));
       ticket = ticket_kept g.P.Port.gives g.P.Port.name g.P.Port.tells _ _ (thread_of new) (thread_of last) f.same.thread told;

@@ -7,7 +7,7 @@ loop-span-init c = counted_none c.args.spans.now
 
 pub loop-span-preserved : goal.loop-span-preserved
 loop-span-preserved c =
-    rw (c.saturating_sub-count.ensures, c.max.ensures, c.max-next.ensures)
+    rw (c.saturating_sub-count.ensures, c.max.ensures, c.max-next.ensures, c.from.ensures, c.from-in-loop-span.ensures)
     (counted_more c.args.spans.now c.loop-span.span-index c.loop-span.next c.loop-span.count c.requires.sorted c.loop-span-test.true
     (c.requires.low c.loop-span.span-index no_span c.loop-span-test.true) c.loop-span.invariant)
 

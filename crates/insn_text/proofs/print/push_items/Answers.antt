@@ -1,8 +1,8 @@
 use Rattle.std.proofs.Common.{ℕ, ◌+◌, ◌≤◌, ◌++◌, List, length, arith, length-append}
+use Rattle.plain_lemmas.proofs.Lists.{list_all-get_or}
 use Rattle.insn_text.specs.declared.item.Kind.TheVariants.{Punctuation}
 use Rattle.insn_text.specs.Texts.{items_text}
 use Rattle.insn_text.specs.Indices.{is_sized}
-use Rattle.insn_text.proofs.Tables.{all_at}
 use Rattle.insn_text.proofs.Steps.{room-gap, room-item, push-next, items-end}
 use Rattle.insn_text.proofs.print.push_items.Goals as goal
 
@@ -22,7 +22,8 @@ push_item-requires-clause-room c =
     (room c.args.out.now.bytes (items_text c.args.word (Punctuation 44) c.args.items.now) c.requires.room) c.push_gap.ensures
 
 pub push_item-requires-clause-sized : goal.push_item-requires-clause-sized
-push_item-requires-clause-sized c = all_at is_sized c.args.items.now c.loop-item.item-index _ c.requires.sized c.loop-item-test.true
+push_item-requires-clause-sized c =
+    list_all-get_or is_sized c.args.items.now c.loop-item.item-index _ c.requires.sized c.loop-item-test.true
 
 pub loop-item-preserved : goal.loop-item-preserved
 loop-item-preserved c =

@@ -1,4 +1,5 @@
 use Rattle.std.proofs.Common.{◌≡◌, ◌≤◌, ◌*◌, ◌/◌, ◌%◌, ◌^◌, ◌<◌, length, refl, ap, sym, ◌∙◌, subst}
+use Rattle.sm_types.specs.declared.limits.TheConstants.{OUTPUT_LIMIT}
 use Rattle.sve_vectors.specs.Lengths.{vector_bytes}
 use Rattle.sve_vectors.specs.Registers.{AreOfLength}
 use Rattle.sm_types.specs.declared.length.VecLen.{VecLen}
@@ -42,7 +43,7 @@ returns-clause-fields c =
       array = c.in_ok-read_array.ensures.size
           ∙ same_array config.svl bank.za.svl (bit_at c.read_svcr.result 1) machine.za_on svl (sym array);
       handlers = c.in_ok-list_handlers.ensures.list;
-      output = subst (λ (l : _). length l ≤ 1048576) (sym c.in_ok-from_slice.ensures.items) thread.output;
+      output = subst (λ (l : _). length l ≤ OUTPUT_LIMIT) (sym c.in_ok-from_slice.ensures.items) thread.output;
       pages = no_page_list c.new.result.items c.new.ensures.items;
     }
 

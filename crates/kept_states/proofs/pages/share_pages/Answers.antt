@@ -20,7 +20,7 @@ loop-place-preserved c =
     shown.entry ∙ (λ i. Some (sym address i / 4096, sym flags i)) in
     let good : IsPage it = record {
       aligned = ap (λ a. a % 4096) address ∙ shown.aligned;
-      private = λ same. c.if-page-eq-SHARED_REGION.false (sym address ∙ same);
+      private = λ same. c.if-page-eq-SHARED_PAGE.false (sym address ∙ same);
       flags = flags_small m c.loop-place.place (entry_of it) c.page_count-place-end.ensures.whole at;
       full = ap length e.bytes ∙ shown.whole;
     } in
@@ -43,8 +43,8 @@ returns-clause-memory c =
     let few : len m.perm ≤ 4096 = omega (arith, c.page_count-place-end.ensures.value, c.page_count-place-end.ensures.few) in
     all_shared m c.loop-place.place c.loop-place.list.items c.loop-place.invariant all few c.page_count-place-end.ensures.whole
 
-pub returns-then-page-eq-SHARED_REGION-clause-private : goal.returns-then-page-eq-SHARED_REGION-clause-private
-returns-then-page-eq-SHARED_REGION-clause-private c =
+pub returns-then-page-eq-SHARED_PAGE-clause-private : goal.returns-then-page-eq-SHARED_PAGE-clause-private
+returns-then-page-eq-SHARED_PAGE-clause-private c =
     page_of_address c.args.pages.now.memory c.loop-place.place c.in-Some.page.address c.in-Some.page.flags 0x7F0000000
     c.in-Some.ensures.entry
-    (ap (λ a. a / 4096) c.if-page-eq-SHARED_REGION.true)
+    (ap (λ a. a / 4096) c.if-page-eq-SHARED_PAGE.true)

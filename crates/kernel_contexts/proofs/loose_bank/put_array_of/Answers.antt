@@ -1,9 +1,10 @@
 use Rattle.std.proofs.Common.{◌≡◌, ◌*◌, true, false, length, ap, sym, ◌∙◌}
+use Rattle.std.proofs.lemmas.Bool.{both_ways}
 use Rattle.std.specs.List.{concat}
 use Rattle.sve_vectors.specs.Lengths.{vector_bytes}
 use Rattle.za_array.specs.Array.{ArrayState}
 use Rattle.kernel_contexts.specs.LooseState.{is_array_on}
-use Rattle.kernel_contexts.proofs.LooseParts.{pieces_whole, on_off, still_zero}
+use Rattle.kernel_contexts.proofs.LooseParts.{pieces_whole, still_zero}
 use Rattle.kernel_contexts.proofs.loose_bank.put_array_of.Goals as goal
 
 pub put_array-requires : goal.put_array-requires
@@ -29,7 +30,7 @@ returns-then-bit-clause-array c =
           ∙ pieces_whole (vector_bytes c.args.za.now.svl) (vector_bytes c.args.za.now.svl) c.as_slice.result.now
           (ap length c.as_slice.ensures.value ∙ long ∙ ap (λ k. k * k) (sym size))
           ∙ c.as_slice.ensures.value;
-      off = λ off. absurd (on_off (is_array_on c.args.state.now) on off);
+      off = λ off. absurd (both_ways (is_array_on c.args.state.now) off on);
     }
 
 pub returns-else-bit-clause-svl : goal.returns-else-bit-clause-svl
@@ -39,6 +40,6 @@ pub returns-else-bit-clause-array : goal.returns-else-bit-clause-array
 returns-else-bit-clause-array c =
     let off : is_array_on c.args.state.now ≡ false = sym c.bit.ensures ∙ c.if-bit.false in
     record {
-      array = λ on. absurd (on_off (is_array_on c.args.state.now) on off);
+      array = λ on. absurd (both_ways (is_array_on c.args.state.now) off on);
       off = λ _. still_zero c.args.za.now c.args.config.now.svl c.requires.zero;
     }

@@ -68,8 +68,8 @@ turns-preserved c =
     let none_parts : parting_at c.args.count (place_of mid c.make_turn.new.ticket None) ≡ None =
     ap (λ o. parting_at c.args.count (place_of mid c.make_turn.new.ticket o)) (sym none) ∙ sym c.parting.ensures ∙ c.in-None.is in
     record {
-      way = way_goes_on _ _ _ _ c.args.count mid last c.make_turn.new.ticket config thread c.advance_several.result f.turns f.journal
-          (up_to_count (state_of mid).count (state_of last).count c.args.count c.advance_several.result _
+      way = way_goes_on _ _ _ _ c.args.count mid last c.make_turn.new.ticket config thread c.advance_several.result.count f.turns f.journal
+          (up_to_count (state_of mid).count (state_of last).count c.args.count c.advance_several.result.count _
           (not_passed c.args.count (state_of mid) (length (journal_of mid)) c.make_turn.new.ticket.ahead none_parts)
           c.count-now.ensures f.count f.few)
           (way_on _ _ _ _ _ c.turns.context c.turns.ticket h.same.config h.same.thread h.way mid c.make_turn.new.ticket
@@ -104,4 +104,4 @@ turns-smaller c =
     let f = c.advance_several.ensures in
     let none = none_of _ (sym c.is_some.ensures ∙ c.if-is_some.false) in
     turns_fall (config_of c.turns.context) (config_of c.make_turn.new.context) (config_of c.advance_several.new.self) _ _ _
-    c.advance_several.result e.same.config f.same.config (e.made (ap Ok none)) e.few f.made
+    c.advance_several.result.count e.same.config f.same.config (e.made (ap Ok none)) e.few f.made

@@ -45,8 +45,8 @@ turns-preserved c =
     let before = before_on _ _ _ _ _ c.turns.context c.turns.ticket h.same.config h.same.thread h.before less mid ticket
     (e.turn ∙ ap (place_of mid ticket) c.in_default.is) e.journal in
     record {
-      before = before_goes_on _ _ _ _ c.args.count mid last ticket config thread c.advance_several.result f.turns f.journal
-          (up_to_count (state_of mid).count (state_of last).count c.args.count c.advance_several.result _ before.most c.count-now.ensures
+      before = before_goes_on _ _ _ _ c.args.count mid last ticket config thread c.advance_several.result.count f.turns f.journal
+          (up_to_count (state_of mid).count (state_of last).count c.args.count c.advance_several.result.count _ before.most c.count-now.ensures
           f.count f.few)
           f.count before;
       held = held_still mid last ticket e.ticket f.home f.same.thread f.journal;
@@ -112,7 +112,7 @@ turns-smaller c =
     let e = c.in_ok-stop.ensures in
     let f = c.advance_several.ensures in
     turns_fall (config_of c.turns.context) (config_of c.make_turn.new.context) (config_of c.advance_several.new.self) _ _ _
-    c.advance_several.result e.same.config f.same.config (e.made (ap Ok c.in_default.is)) e.few f.made
+    c.advance_several.result.count e.same.config f.same.config (e.made (ap Ok c.in_default.is)) e.few f.made
 
 pub overflow_sub-count : goal.overflow_sub-count
 overflow_sub-count c =

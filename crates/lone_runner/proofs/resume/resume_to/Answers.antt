@@ -46,9 +46,9 @@ turns-preserved c =
     ticket
     (e.turn ∙ ap (loose_place mid ticket) c.in_default.is) in
     record {
-      coming = coming_goes_on c.args.loose.now c.args.ticket.now.ahead c.args.count mid last ticket c.advance_several.result same f.turns
+      coming = coming_goes_on c.args.loose.now c.args.ticket.now.ahead c.args.count mid last ticket c.advance_several.result.count same f.turns
           f.events
-          (up_to_count (loose_state mid).count (loose_state last).count c.args.count c.advance_several.result _ coming.most
+          (up_to_count (loose_state mid).count (loose_state last).count c.args.count c.advance_several.result.count _ coming.most
           c.count-now.ensures f.count f.few)
           f.count coming;
       held = loose_held_still mid last ticket e.ticket f.same.thread;
@@ -97,7 +97,7 @@ turns-smaller c =
     let e = c.in_ok-stop.ensures in
     let f = c.advance_several.ensures in
     rest_turns_fall (loose_config c.turns.loose) (loose_config c.make_turn.new.loose) (loose_config c.advance_several.new.self) _ _ _
-    c.advance_several.result e.same.config f.same.config (e.made (ap Ok c.in_default.is)) e.few f.made
+    c.advance_several.result.count e.same.config f.same.config (e.made (ap Ok c.in_default.is)) e.few f.made
 
 pub overflow_sub-count : goal.overflow_sub-count
 overflow_sub-count c =

@@ -70,9 +70,9 @@ turns-preserved c =
     ∙ parted_at c.args.count mid ticket _ _ _ c.count.ensures
     (sym (c.parting_of.ensures c.make_turn.new.ticket.ahead (sym c.left.ensures)) ∙ c.in-None.is) in
     record {
-      way = resume_goes_on c.args.loose.now c.args.ticket.now.ahead c.args.count mid last ticket c.advance_several.result same f.turns
+      way = resume_goes_on c.args.loose.now c.args.ticket.now.ahead c.args.count mid last ticket c.advance_several.result.count same f.turns
           f.events
-          (up_to_count (loose_state mid).count (loose_state last).count c.args.count c.advance_several.result _
+          (up_to_count (loose_state mid).count (loose_state last).count c.args.count c.advance_several.result.count _
           (not_passed c.args.count (loose_state mid) (loose_events mid) ticket.ahead none_parts)
           c.count-now.ensures f.count f.few)
           (resume_on c.args.loose.now c.args.ticket.now.ahead c.args.count c.turns.loose c.turns.ticket h.same h.way mid ticket
@@ -92,4 +92,4 @@ turns-smaller c =
     let f = c.advance_several.ensures in
     let none = c.in-None-stop.is in
     rest_turns_fall (loose_config c.turns.loose) (loose_config c.make_turn.new.loose) (loose_config c.advance_several.new.self) _ _ _
-    c.advance_several.result e.same.config f.same.config (e.made (ap Ok none)) e.few f.made
+    c.advance_several.result.count e.same.config f.same.config (e.made (ap Ok none)) e.few f.made

@@ -1,7 +1,6 @@
 use Rattle.std.proofs.Common.{◌*◌}
 use Rattle.vector_elements.specs.declared.size.Size.TheVariants.{D}
-use Rattle.outer_products.specs.Sources.{four_of, dot_in_pairs}
-use Rattle.outer_products.proofs.Written.{IsSummedTo}
+use Rattle.outer_products.specs.Sources.{four_of, dot_in_pairs, IsSummedTo}
 use Rattle.outer_products.proofs.rows.change_doublewords.Given as goal
 
 abbrev pub invariant-loop-turn : goal.invariant-loop-turn

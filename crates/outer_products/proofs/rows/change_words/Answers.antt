@@ -1,8 +1,8 @@
-use Rattle.std.proofs.Common.{arith, ap, ◌∙◌, ◌*◌, ◌+◌, ℕ}
+use Rattle.std.proofs.Common.{◌≡◌, arith, ap, ◌∙◌, ◌*◌, ◌+◌, ℕ, ℤ, List, length, subst}
 use Rattle.std.specs.Int.{w16}
 use Rattle.vector_elements.specs.declared.size.Size.TheVariants.{S}
 use Rattle.vector_elements.proofs.Lists.{begun, finished}
-use Rattle.outer_products.specs.Sources.{four_of, dot_in_pairs, word_sums, summed, row_of_sums}
+use Rattle.outer_products.specs.Sources.{four_of, dot_in_pairs, word_sums, summed, row_of_sums, IsSummedTo}
 use Rattle.outer_products.proofs.Written.{summed_next, summed_turn}
 use Rattle.outer_products.proofs.Lanes.{read_four}
 use Rattle.outer_products.proofs.rows.change_words.Goals as goal
@@ -40,3 +40,16 @@ returns c =
     finished 4 (summed S (dot_in_pairs 4 (four_of c.args.s.now.n.now c.args.r) c.args.s.now.m.now)) c.args.row.now c.loop-i.row
     (4 * c.loop-i.i) (omega arith) (omega (arith, c.requires.whole))
     (omega (arith, c.requires.m, c.requires.whole, c.loop-i-test.false, c.loop-i.auto.i, c.loop-i.auto.i-end)) c.loop-i.invariant
+
+pub returns-then-s-eq256 : goal.returns-then-s-eq256
+unfolding row_of_sums
+returns-then-s-eq256 c =
+    let n = c.args.s.now.n.now in
+    let m = c.args.s.now.m.now in
+    let old = c.args.row.now in
+    let new = c.add_sixteen.new.row in
+    let long : length old ≡ 256 = omega (arith, c.requires.m, c.if-s-eq256.true) in
+    let all = subst (λ (ns : List ℤ). IsSummedTo S (dot_in_pairs 4 ns m) old 64 new) (read_four w16 n c.args.r c.requires.n_fit)
+    c.add_sixteen.ensures in
+    finished 4 (summed S (dot_in_pairs 4 (four_of n c.args.r) m)) old new 64 (omega arith) (omega (arith, c.requires.whole))
+    (omega (arith, long)) all

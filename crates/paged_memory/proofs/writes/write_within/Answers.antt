@@ -3,9 +3,9 @@ use Rattle.std.specs.Prelude.{IsSome}
 use Rattle.std.specs.FinMap.{get}
 use Rattle.std.specs.FinSet.{contains}
 use Rattle.std.proofs.lemmas.Bool.Decides.{nat_tests}
+use Rattle.std.proofs.lemmas.List.{nil_from_length}
 use Rattle.paged_memory.specs.Memory.{first_without}
 use Rattle.paged_memory.specs.Pages.{perm_of, own_numbers, memory_of, table_of}
-use Rattle.paged_memory.proofs.Over.{no_bytes}
 use Rattle.paged_memory.proofs.Runs.{run_permitted, run_denied, run_gone}
 use Rattle.paged_memory.proofs.Owned.{owns_page, owned_first}
 use Rattle.paged_memory.proofs.Held.{found_some, itself_member}
@@ -14,7 +14,7 @@ use Rattle.paged_memory.proofs.writes.write_within.Goals as goal
 
 pub returns-then-is_empty-clause-writes : goal.returns-then-is_empty-clause-writes
 returns-then-is_empty-clause-writes c =
-    let none : c.args.bytes.now ≡ [] = no_bytes c.args.bytes.now (grind (arith, nat_tests)) in
+    let none : c.args.bytes.now ≡ [] = nil_from_length c.args.bytes.now (grind (arith, nat_tests)) in
     writes_none c.args.address c.args.bytes.now (table_of c.args.pages.now.items) none
 
 pub returns-then-index-ne2-clause-writes : goal.returns-then-index-ne2-clause-writes

@@ -5,4 +5,4 @@ use Rattle.predicates.proofs.while_loops.predicate_while.Goals as goal
 
 pub returns-clause-value : goal.returns-clause-value
 unfolding while_predicate
-returns-clause-value c = c.put_truths.ensures ∙ same_predicate _ _ _ _ c.while_limit-limit.ensures
+returns-clause-value c = c.put_below.ensures ∙ same_predicate _ _ _ _ c.while_limit-limit.ensures

@@ -1,5 +1,6 @@
 use Rattle.std.proofs.Common.{◌≡◌, map, Some, ap, refl, sym, ◌∙◌}
 use Rattle.std.specs.String.{string_bytes}
+use Rattle.plain_lemmas.proofs.Options.{none_not_some}
 use Rattle.cmd_words.specs.Command.{request_of}
 use Rattle.cmd_words.specs.Words.{usage_fault, command_of}
 use Rattle.edge_io.specs.Cause.{Rose}
@@ -9,7 +10,7 @@ use Rattle.smemu.specs.Requests.{reached_asked}
 use Rattle.smemu.specs.Threads.{IsThreaded}
 use Rattle.smemu.specs.Views.{end_status, CarriesOut, EndsWords}
 use Rattle.smemu.proofs.Ends.{asked_ends, fetches_asked, fetches_none, fetches_unread, if_err, if_ok, no_request, same_takes}
-use Rattle.smemu.proofs.Ends.{usage_stands, no_some, none_ok, same_takes_some}
+use Rattle.smemu.proofs.Ends.{usage_stands, none_ok, same_takes_some}
 use Rattle.smemu.proofs.command.answer_words.Goals as goal
 
 pub returns-in-Ok-clause-ends : goal.returns-in-Ok-clause-ends
@@ -64,7 +65,7 @@ returns-in-Err-Usage-clause-several g c =
     ≡ Some (record { place = c.in-Err-Usage.place; kind = c.in-Err-Usage.kind }) =
     rw c.in-Err-Usage.field-0-is at c.in-Err-Usage.ensures.fault in
     let none = no_request (map string_bytes c.args.words.now) _ is_fault in
-    λ request asks takes. absurd (no_some (command_of (map string_bytes c.args.words.now)) request none asks)
+    λ request asks takes. absurd (none_not_some (command_of (map string_bytes c.args.words.now)) request none asks)
 
 pub returns-in-Err-Usage-clause-ends : goal.returns-in-Err-Usage-clause-ends
 returns-in-Err-Usage-clause-ends g c =

@@ -1,10 +1,11 @@
 use Rattle.std.proofs.Common.{◌≡◌, List, subst, sym, ◌∙◌, Result, Ok, Err}
+use Rattle.std.proofs.lemmas.List.{take_all}
 use Rattle.std.specs.Prelude.{IsErrAnd}
 use Rattle.script_reader.specs.declared.command.DebugCommand.{DebugCommand}
 use Rattle.sme_debugger.specs.Session.{recording_of, place_of}
 use Rattle.sme_debugger.specs.declared.fault.DebugFault.{DebugFault}
 use Rattle.smemu.specs.Debug.{AnswersEach, Leads}
-use Rattle.smemu.proofs.Debugs.{answered_more, answered_until, take_all}
+use Rattle.smemu.proofs.Debugs.{answered_more, answered_until}
 use Rattle.smemu.proofs.debug.answer_each.Goals as goal
 
 -- a fault that is passed on
@@ -39,7 +40,7 @@ loop-command-preserved g c =
 pub returns : goal.returns
 returns g c =
     let h = c.loop-command.invariant.0 in
-    let all = take_all c.args.commands.now c.loop-command.command-index c.loop-command-test.false in
+    let all = take_all c.loop-command.command-index c.args.commands.now c.loop-command-test.false in
     let leads =
     subst (λ (cs : List DebugCommand). Leads (recording_of c.args.session.now) (place_of c.args.session.now) cs
     (place_of c.loop-command.session) h.text) all h.leads in

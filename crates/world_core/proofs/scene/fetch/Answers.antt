@@ -1,6 +1,7 @@
 use Rattle.std.proofs.Common.{◌≡◌, ◌<◌, ◌∷◌, length, map, ap, sym, ◌∙◌, arith}
 use Rattle.std.specs.Prelude.{remove}
 use Rattle.std.proofs.lemmas.Grind.{common_steps}
+use Rattle.std.proofs.lemmas.List.{nil_from_length}
 use Rattle.shared_region.specs.Ports.{PlainEvents}
 use Rattle.kernel_contexts.specs.Context.{config_of}
 use Rattle.core_unit.specs.CoreState.{CoreState}
@@ -8,7 +9,7 @@ use Rattle.kernel_contexts.specs.Guest.{guest_of}
 use Rattle.core_unit.specs.View.{core_state, held_by}
 use Rattle.core_unit.proofs.Cores.{cons_of, first_of, each_rest}
 use Rattle.world_core.specs.Parts.{guests_of}
-use Rattle.world_core.proofs.Scenes.{fetch_full, fetch_none, fetch_so, none_in}
+use Rattle.world_core.proofs.Scenes.{fetch_full, fetch_none, fetch_so}
 use Rattle.world_core.proofs.scene.fetch.Goals as goal
 
 pub returns-then-residents-ge-PLACES-clause-applies : goal.returns-then-residents-ge-PLACES-clause-applies
@@ -23,7 +24,7 @@ returns-then-is_empty-clause-applies c = λ n done history.
     let none : length c.args.queue.now.items ≡ 0 = grind (arith, common_steps, c.is_empty.ensures, c.if-is_empty.true) in
     fetch_none old old (guests_of c.args.queue.now.items) done history n
     (omega (arith, c.residents-residents.ensures, c.if-residents-ge-PLACES.false))
-    (ap (λ l. map (λ w. guest_of w.context) l) (none_in c.args.queue.now.items none))
+    (ap (λ l. map (λ w. guest_of w.context) l) (nil_from_length c.args.queue.now.items none))
 
 pub admit-requires : goal.admit-requires
 admit-requires c =

@@ -1,5 +1,5 @@
 use Rattle.std.proofs.Common.{◌<◌, ◌∷◌, [], length, map, refl, ap, sym, ◌∙◌, arith}
-use Rattle.std.proofs.lemmas.List.{map-append}
+use Rattle.std.proofs.lemmas.List.{map-append, nil_from_length}
 use Rattle.shared_region.specs.History.{entries_of}
 use Rattle.kernel_contexts.specs.Guest.{guest_of}
 use Rattle.core_unit.specs.View.{core_state, held_by}
@@ -9,13 +9,12 @@ use Rattle.world_core.specs.declared.event.Applied.TheVariants as applied
 use Rattle.shared_region.specs.Ports.{PlainEvents}
 use Rattle.core_unit.specs.CoreState.{CoreState}
 use Rattle.world_core.proofs.Plains.{core_applies, done_few, run_none, taken_so, none_taken, only_one, run_config, run_number}
-use Rattle.world_core.proofs.Scenes.{none_in}
 use Rattle.world_core.proofs.scene.run.Goals as goal
 
 pub returns-then-residents-eq0-clause-applies : goal.returns-then-residents-eq0-clause-applies
 returns-then-residents-eq0-clause-applies c = λ n queue.
     run_none (core_state c.args.core.now) queue (guests_of c.args.done.now.items) c.args.port.now.history n c.args.k
-    (none_in (core_state c.args.core.now).residents (omega (arith, c.residents.ensures, c.if-residents-eq0.true)))
+    (nil_from_length (core_state c.args.core.now).residents (omega (arith, c.residents.ensures, c.if-residents-eq0.true)))
 
 pub run-run-requires : goal.run-run-requires
 run-run-requires c = record { belong = record { resident = λ k d l. refl; stopped = λ k d l. refl } }
@@ -29,7 +28,7 @@ returns-in-None-clause-applies c = λ n queue.
     none_taken queue base base c.run-run.new.port.history mid (core_state c.take_done.new.self) (event.Run n c.args.k)
     (scene_with old queue base c.args.port.now.history) (applied.Ran c.run-run.result)
     (core_applies queue base c.args.port.now.history c.run-run.new.port.history _ c.args.k old mid c.run-run.result
-    (none_in old.done c.requires.none)
+    (nil_from_length old.done c.requires.none)
     (λ thread events t u given. c.plain_history_grows.ensures.history _ _ t u (entries_of thread events) given.chain)
     c.history-history.ensures.plain.legal n some c.run-run.ensures.run)
     (c.in-None.ensures.none refl) (c.in-None.ensures.unchanged refl) refl
@@ -43,12 +42,12 @@ returns-in-Some-clause-applies c = λ n queue.
     taken_so queue base (guests_of c.push_reserved.new.self.items) c.run-run.new.port.history mid (core_state c.take_done.new.self)
     (event.Run n c.args.k) (scene_with old queue base c.args.port.now.history) (applied.Ran c.run-run.result)
     (core_applies queue base c.args.port.now.history c.run-run.new.port.history _ c.args.k old mid c.run-run.result
-    (none_in old.done c.requires.none)
+    (nil_from_length old.done c.requires.none)
     (λ thread events t u given. c.plain_history_grows.ensures.history _ _ t u (entries_of thread events) given.chain)
     c.history-history.ensures.plain.legal n some c.run-run.ensures.run)
     (held_by c.in-Some.stopped)
     (done_few queue base c.args.port.now.history c.run-run.new.port.history _ c.args.k old mid c.run-run.result
-    (none_in old.done c.requires.none)
+    (nil_from_length old.done c.requires.none)
     (λ thread events t u given. c.plain_history_grows.ensures.history _ _ t u (entries_of thread events) given.chain)
     c.history-history.ensures.plain.legal some c.run-run.ensures.run)
     c.in-Some.ensures.taken
@@ -62,7 +61,7 @@ returns-in-Some-clause-none c =
     let mid = core_state c.run-run.new.self in
     let some : 0 < length old.residents = omega (arith, c.residents.ensures, c.if-residents-eq0.false) in
     let few = done_few [] base c.args.port.now.history c.run-run.new.port.history _ c.args.k old mid c.run-run.result
-    (none_in old.done c.requires.none)
+    (nil_from_length old.done c.requires.none)
     (λ thread events t u given. c.plain_history_grows.ensures.history _ _ t u (entries_of thread events) given.chain)
     c.history-history.ensures.plain.legal some c.run-run.ensures.run in
     ap (λ l. length l) (only_one mid.done (core_state c.take_done.new.self).done (held_by c.in-Some.stopped) few

@@ -1,7 +1,7 @@
 use Rattle.std.proofs.Common.{◌≡◌, ◌*◌, ◌==◌, true, false, ap, sym, ◌∙◌, arith, eq-eqb}
+use Rattle.std.proofs.lemmas.Bool.{ne_eqb}
 use Rattle.lazy_saving.specs.Block.{buffer_of}
 use Rattle.lazy_saving.proofs.Cases.{saved_none, saved_some}
-use Rattle.za_routines.proofs.Limits.{is_not_zero}
 use Rattle.za_routines.proofs.block.saved_bytes.Goals as goal
 
 pub returns-then-buffer_address-eq0 : goal.returns-then-buffer_address-eq0
@@ -15,5 +15,5 @@ pub returns : goal.returns
 returns c =
     let block = c.args.block.now in
     let some : (buffer_of block == 0) ≡ false =
-    ap (λ n. (n == 0)) (sym c.buffer_address.ensures) ∙ is_not_zero c.buffer_address.result c.if-buffer_address-eq0.false in
+    ap (λ n. (n == 0)) (sym c.buffer_address.ensures) ∙ ne_eqb c.buffer_address.result 0 c.if-buffer_address-eq0.false in
     ap (λ k. k * c.args.size) (c.from.ensures ∙ c.slices.ensures.value ∙ sym (saved_some block some))

@@ -1,11 +1,7 @@
 use Rattle.std.proofs.Common.{ap, subst, suc, arith}
 use Rattle.std.specs.Prelude.{Ok}
-use Rattle.kernel_contexts.specs.State.{State}
 use Rattle.kernel_contexts.specs.Context.{state_of}
-use Rattle.paged_memory.specs.Memory.{AddressSpace}
-use Rattle.abi_checker.specs.Straight.{KeepsCode, AreBlocks}
 use Rattle.abi_checker.specs.Watching.{IsPast, AfterCall, AreNear, IsToldNext}
-use Rattle.abi_checker.proofs.Staying.{blocks_stay}
 use Rattle.abi_checker.proofs.Went.{went_unlawful, went_uncalled, went_called, all_of_some, settled_few, both_ok}
 use Rattle.abi_checker.proofs.watch.Watch.go_on.Goals as goal
 
@@ -24,14 +20,9 @@ pub settle-requires-clause-near : goal.settle-requires-clause-near
 settle-requires-clause-near c = c.requires.somewhere.2.near
 
 pub returns-then-branch : goal.returns-then-branch
-returns-then-branch c = λ run n w e past grows whole code.
-    let s = state_of c.args.context.now in
+returns-then-branch c = λ run n w e past grows whole.
     let old = c.args.self.now in
-    went_unlawful run n old s w e grows
-    (blocks_stay old.near (run n).core.memory s.core.memory old.blocks.known
-    (subst (λ (u : State). KeepsCode (run n).core.memory u.core.memory) e code) w.known)
-    old
-    (c.in_ok-settle.ensures.yes (ap Ok c.if-branch.true))
+    went_unlawful run n old (state_of c.args.context.now) w e grows old (c.in_ok-settle.ensures.yes (ap Ok c.if-branch.true))
 
 pub call-requires-clause-few : goal.call-requires-clause-few
 call-requires-clause-few c =
@@ -43,33 +34,18 @@ call-requires-clause-few c =
     omega (arith, few, fewer)
 
 pub returns-in-Some : goal.returns-in-Some
-returns-in-Some c = λ run n w e past grows whole code.
+returns-in-Some c = λ run n w e past grows whole.
     let s = state_of c.args.context.now in
-    let old = c.args.self.now in
     let mid = c.settle.new.self in
     let new = c.call.new.self in
-    let known =
-    blocks_stay old.near (run n).core.memory s.core.memory old.blocks.known
-    (subst (λ (u : State). KeepsCode (run n).core.memory u.core.memory) e code) w.known in
-    both_ok c.call.result (λ kind. AfterCall s c.in-Some.past mid new kind)
-    (λ kind. AreNear new.near new.calls.items
-    × ((x : AddressSpace) → AreBlocks mid.near x mid.blocks.known → AreBlocks new.near x new.blocks.known))
-    (λ kind. IsToldNext run (suc n) kind new) c.call.ensures.after
-    (both_ok c.call.result (λ kind. AreNear new.near new.calls.items)
-    (λ kind. (x : AddressSpace) → AreBlocks mid.near x mid.blocks.known → AreBlocks new.near x new.blocks.known)
-    (λ kind. AreNear new.near new.calls.items
-    × ((x : AddressSpace) → AreBlocks mid.near x mid.blocks.known → AreBlocks new.near x new.blocks.known)) c.call.ensures.near
-    c.call.ensures.known (λ kind near blocks. (near, blocks)))
-    (λ kind after both.
-    went_called run n old s w e grows known mid (c.in_ok-settle.ensures.no (ap Ok c.if-branch.false)) (λ call p r. whole)
-    c.in-Some.past new (subst (λ o. IsPast (run n) (run (suc n)) o) c.in-Some.is past) whole both.0 both.1 kind after)
+    both_ok c.call.result (λ kind. AfterCall s c.in-Some.past mid new kind) (λ kind. AreNear new.near new.calls.items)
+    (λ kind. IsToldNext run (suc n) kind new) c.call.ensures.after c.call.ensures.near
+    (λ kind after near.
+    went_called run n c.args.self.now s w e grows mid (c.in_ok-settle.ensures.no (ap Ok c.if-branch.false)) (λ call p r. whole)
+    c.in-Some.past new (subst (λ o. IsPast (run n) (run (suc n)) o) c.in-Some.is past) whole near kind after)
 
 pub returns-in-None : goal.returns-in-None
-returns-in-None c = λ run n w e past grows whole code.
-    let s = state_of c.args.context.now in
-    let old = c.args.self.now in
-    let known =
-    blocks_stay old.near (run n).core.memory s.core.memory old.blocks.known
-    (subst (λ (u : State). KeepsCode (run n).core.memory u.core.memory) e code) w.known in
-    went_uncalled run n old s w e grows known c.settle.new.self (c.in_ok-settle.ensures.no (ap Ok c.if-branch.false))
-    (λ call p r. whole) (subst (λ o. IsPast (run n) (run (suc n)) o) c.in-None.is past)
+returns-in-None c = λ run n w e past grows whole.
+    went_uncalled run n c.args.self.now (state_of c.args.context.now) w e grows c.settle.new.self
+    (c.in_ok-settle.ensures.no (ap Ok c.if-branch.false)) (λ call p r. whole)
+    (subst (λ o. IsPast (run n) (run (suc n)) o) c.in-None.is past)

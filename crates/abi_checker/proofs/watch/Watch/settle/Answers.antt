@@ -16,5 +16,4 @@ returns-clause-no c = λ _. record {
   left = c.take_returns.ensures.left;
   all = c.take_returns.ensures.all;
   near = c.take_returns.ensures.near;
-  known = λ m h. c.take_returns.ensures.known m;
 }

@@ -19,10 +19,10 @@ go_on-requires-clause-somewhere c =
     (here.0, here.1, watched here.0 here.1 c.args.self.now c.args.found c.if-is_some.ensures here.2, here.3)
 
 pub returns-in-Some : goal.returns-in-Some
-returns-in-Some c = λ run n way e past grows whole code.
+returns-in-Some c = λ run n way e past grows whole.
     let w = watched run n c.args.self.now c.args.found c.if-is_some.ensures way in
     let told = subst (λ kind. IsToldNext run (suc n) kind c.go_on.new.self) c.in-Some.is
-    (c.in_ok-kind.ensures run n w e past grows whole code) in
+    (c.in_ok-kind.ensures run n w e past grows whole) in
     record {
       at = suc n;
       within = omega arith;
@@ -32,6 +32,6 @@ returns-in-Some c = λ run n way e past grows whole code.
     }
 
 pub returns-in-None : goal.returns-in-None
-returns-in-None c = λ run n way e past grows whole code.
+returns-in-None c = λ run n way e past grows whole.
     let w = watched run n c.args.self.now c.args.found c.if-is_some.ensures way in
-    subst (λ kind. IsToldNext run (suc n) kind c.go_on.new.self) c.in-None.is (c.in_ok-kind.ensures run n w e past grows whole code)
+    subst (λ kind. IsToldNext run (suc n) kind c.go_on.new.self) c.in-None.is (c.in_ok-kind.ensures run n w e past grows whole)

@@ -3,9 +3,10 @@ use Rattle.std.specs.Prelude.{slice_get}
 use Rattle.core_unit.specs.Owners.{IsTold, freed_by}
 use Rattle.core_unit.specs.Residents.{held_at}
 use Rattle.std.proofs.lemmas.Grind.{common_steps}
+use Rattle.std.proofs.lemmas.List.{nil_from_length}
 use Rattle.core_unit.specs.View.{core_state, held_by}
 use Rattle.core_unit.proofs.Cores.{each_rest}
-use Rattle.core_unit.proofs.Owners.{empty_of, told_rest}
+use Rattle.core_unit.proofs.Owners.{told_rest}
 use Rattle.core_unit.proofs.unit.Core.evict.Goals as goal
 
 pub invariant_of-self : goal.invariant_of-self
@@ -41,4 +42,4 @@ pub returns-then-is_empty-clause-owner : goal.returns-then-is_empty-clause-owner
 returns-then-is_empty-clause-owner g c =
     let t = c.args.self.now in
     sym (ap (λ l. freed_by (held_at t.bank l) t.bank.owner)
-    (empty_of t.residents.items (grind (arith, common_steps, c.is_empty.ensures, c.if-is_empty.true))))
+    (nil_from_length t.residents.items (grind (arith, common_steps, c.is_empty.ensures, c.if-is_empty.true))))

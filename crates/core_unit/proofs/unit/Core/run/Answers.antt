@@ -1,9 +1,9 @@
 use Rattle.std.proofs.Common.{sym, ◌∙◌, arith, ap, refl, subst}
 use Rattle.shared_region.specs.Tickets.{TicketView, GivesEvents}
 use Rattle.std.proofs.lemmas.Grind.{common_steps}
+use Rattle.std.proofs.lemmas.List.{nil_from_length}
 use Rattle.core_unit.specs.Owners.{OwnerWith}
 use Rattle.core_unit.specs.View.{core_state, owner_of}
-use Rattle.core_unit.proofs.Owners.{empty_of}
 use Rattle.core_unit.specs.Residents.{held_at, held_home}
 use Rattle.core_unit.proofs.Cores.{first_belongs, not_idle, runs_on, owner_on, runs_out, owner_out, told_after, options_on, options_out, told_out, belong_on, belong_out}
 use Rattle.core_unit.proofs.unit.Core.run.Goals as goal
@@ -175,4 +175,4 @@ pub returns-then-is_empty-clause-owner : goal.returns-then-is_empty-clause-owner
 returns-then-is_empty-clause-owner g c =
     let t = c.args.self.now in
     subst (λ l. OwnerWith c.args.k (held_at t.bank l) (core_state t) (owner_of t) (core_state t) (owner_of t) _)
-    (sym (empty_of t.residents.items (grind (arith, common_steps, c.is_empty.ensures, c.if-is_empty.true)))) refl
+    (sym (nil_from_length t.residents.items (grind (arith, common_steps, c.is_empty.ensures, c.if-is_empty.true)))) refl

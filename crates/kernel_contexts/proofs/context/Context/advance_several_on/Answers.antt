@@ -8,20 +8,22 @@ use Rattle.kernel_contexts.proofs.Several.{run_goes_by, owned_on}
 use Rattle.kernel_contexts.proofs.context.Context.advance_several_on.Goals as goal
 
 pub returns-then-is_owned : goal.returns-then-is_owned
-returns-then-is_owned c =
+returns-then-is_owned g c =
     let before = c.args.self.now in
+    let halts = g.H.Halts.halts c.args.halts.now in
     let old = before.guest in
     let bank = c.args.bank.now in
-    let new = c.make_many_turns.new.self in
-    let after = c.make_many_turns.new.bank in
-    let e = c.make_many_turns.ensures in
+    let new = c.make_several_turns.new.self in
+    let after = c.make_several_turns.new.bank in
+    let e = c.make_several_turns.ensures in
     let here : owns bank old.number ≡ true = sym c.is_owned.ensures ∙ c.if-is_owned.true in
     let there = owned_on bank after old.number new.number true e.back.same.owner e.same.number here in
-    let so = several_from_start old before.from_start false c.make_many_turns.result (held_state old bank) (held_state new after)
+    let so = several_from_start old before.from_start halts false c.make_several_turns.result.count (held_state old bank) (held_state new after)
     e.turns in
     record {
       turns = rw (here, there) so;
       few = e.few;
+      halted = e.halted;
       owned = e.owned;
       count = e.count;
       made = e.made;
@@ -38,8 +40,8 @@ returns-then-is_owned c =
           fit = λ _. e.back.fit;
           run = λ _. run_same before.image old.config new.config old.number new.number old.journal.items new.journal.items
               (held_state new after) (held_state new after) old.stop new.stop e.same.config e.same.number e.same.journal refl e.stop
-              (run_goes_by false before.image old.config old.number (held_state old bank) (held_state new after) old.journal.items old.stop
-              c.make_many_turns.result c.requires.runs (c.requires.on.run here) so);
+              (run_goes_by halts false before.image old.config old.number (held_state old bank) (held_state new after) old.journal.items old.stop
+              c.make_several_turns.result.count c.requires.runs (c.requires.on.run here) so);
         };
         bank = e.back.same;
         apart = λ not_owned. let clash = sym here ∙ not_owned in cc;
@@ -47,19 +49,21 @@ returns-then-is_owned c =
     }
 
 pub returns-else-is_owned : goal.returns-else-is_owned
-returns-else-is_owned c =
+returns-else-is_owned g c =
     let before = c.args.self.now in
+    let halts = g.H.Halts.halts c.args.halts.now in
     let old = before.guest in
     let bank = c.args.bank.now in
-    let made = c.make_many_turns-else-is_owned in
+    let made = c.make_several_turns-else-is_owned in
     let new = made.new.self in
     let e = made.ensures in
     let here : owns bank old.number ≡ false = sym c.is_owned.ensures ∙ c.if-is_owned.false in
     let there = owned_on bank bank old.number new.number false refl e.same.number here in
     record {
-      turns = rw (here, there) (several_from_start old before.from_start true made.result (held_state old before.save_area)
+      turns = rw (here, there) (several_from_start old before.from_start halts true made.result.count (held_state old before.save_area)
           (held_state new made.new.bank) e.turns);
       few = e.few;
+      halted = e.halted;
       owned = e.owned;
       count = e.count;
       made = e.made;
@@ -80,10 +84,11 @@ returns-else-is_owned c =
     }
 
 pub invariant_of-self-else-is_owned : goal.invariant_of-self-else-is_owned
-invariant_of-self-else-is_owned c =
+invariant_of-self-else-is_owned g c =
     let before = c.args.self.now in
+    let halts = g.H.Halts.halts c.args.halts.now in
     let old = before.guest in
-    let made = c.make_many_turns-else-is_owned in
+    let made = c.make_several_turns-else-is_owned in
     let new = made.new.self in
     let e = made.ensures in
     record {
@@ -96,8 +101,8 @@ invariant_of-self-else-is_owned c =
       is_run = λ home. run_same before.image old.config new.config old.number new.number old.journal.items new.journal.items
           (held_state new made.new.bank) (held_state new made.new.bank) old.stop new.stop e.same.config e.same.number e.same.journal refl
           e.stop
-          (run_goes_by true before.image old.config old.number (held_state old before.save_area) (held_state new made.new.bank)
-          old.journal.items old.stop made.result c.requires.runs (before.is_run home)
-          (several_from_start old before.from_start true made.result (held_state old before.save_area) (held_state new made.new.bank)
+          (run_goes_by halts true before.image old.config old.number (held_state old before.save_area) (held_state new made.new.bank)
+          old.journal.items old.stop made.result.count c.requires.runs (before.is_run home)
+          (several_from_start old before.from_start halts true made.result.count (held_state old before.save_area) (held_state new made.new.bank)
           e.turns));
     }

@@ -42,10 +42,10 @@ go_on-requires-clause-within g c =
     not_kept c.args.apart (vector_bytes c.args.bank.now.vectors.vl) (held_state t c.args.bank.now).core
     _ _ _ (end.Next c.in-Next.event) (λ e. cc) refl c.in-Next.ensures.effect in
     let n = t.earlier + vec_len c.reserve.new.self in
-    let count : c.events-room.result ≡ n = omega (arith, c.events-room.ensures) in
+    let count : c.events.result ≡ n = omega (arith, c.events.ensures) in
     event_fits _ _ (effect_of (vector_bytes c.args.bank.now.vectors.vl) (held_state t c.args.bank.now).core)
     (held_state t c.args.bank.now).core _ c.in-Next.event n n refl
-    (omega (arith, t.journal_within, c.reserve.ensures.len)) (room_left c.events-room.result n count) k.1
+    (omega (arith, t.journal_within, c.reserve.ensures.len)) (room_left c.events.result n count) k.1
 
 pub returns-in-Next-clause-turn : goal.returns-in-Next-clause-turn
 returns-in-Next-clause-turn g c =
@@ -53,13 +53,13 @@ returns-in-Next-clause-turn g c =
     let k =
     not_kept c.args.apart (vector_bytes c.args.bank.now.vectors.vl) (held_state t c.args.bank.now).core
     _ _ _ (end.Next c.in-Next.event) (λ e. cc) refl c.in-Next.ensures.effect in
-    let count : c.events-room.result ≡ guest_events t =
-    c.events-room.ensures ∙ ap (λ (l : List Event). t.earlier + length l) c.reserve.ensures.items in
+    let count : c.events.result ≡ guest_events t =
+    c.events.ensures ∙ ap (λ (l : List Event). t.earlier + length l) c.reserve.ensures.items in
     unless_so _ _ _ _ _ _ _ _ k.0 (rw c.go_on.ensures.answer (
       goes_over t.config t.number (guest_events t) (held_state t c.args.bank.now) _ _ _
           (its_effect t c.args.bank.now c.requires.fit.lengths.vl) _
           (held_state c.go_on.new.self c.step_apart.new.bank) c.in-Next.event _
-          (room_left c.events-room.result (guest_events t) count)
+          (room_left c.events.result (guest_events t) count)
           k.1 (ap (with_vectors (bank_state c.step_apart.new.bank)) c.go_on.ensures.state)
           (made_events t.journal.items _ _ (c.go_on.ensures.journal ∙ ap (λ l. l ++ events_of c.in-Next.event) c.reserve.ensures.items)),
       c.go_on.ensures.stop ∙ c.requires.runs,
@@ -91,8 +91,8 @@ returns-in-NoRoom-clause-turn g c =
     _ _ _ end.NoRoom (λ e. cc) refl c.in-NoRoom.ensures.effect in
     let h = k.1 in
     let stop = c.stop_with-in-NoRoom in
-    let count : c.events-room.result ≡ guest_events t =
-    c.events-room.ensures ∙ ap (λ (l : List Event). t.earlier + length l) c.reserve.ensures.items in
+    let count : c.events.result ≡ guest_events t =
+    c.events.ensures ∙ ap (λ (l : List Event). t.earlier + length l) c.reserve.ensures.items in
     unless_so _ _ _ _ _ _ _ _ k.0
     (asked_nothing _ _ _ (held_state t c.args.bank.now) (held_state stop.new.self c.step_apart.new.bank) _ _ stop.result
     (made_nothing t.journal.items _ (stop.ensures.same.journal ∙ c.reserve.ensures.items))
@@ -100,7 +100,7 @@ returns-in-NoRoom-clause-turn g c =
     stop.ensures.answer
     (full_over t.config t.number (guest_events t) (held_state t c.args.bank.now) _
     (its_effect t c.args.bank.now c.requires.fit.lengths.vl)
-    (room_full c.events-room.result (guest_events t) count h.1) h.2
+    (room_full c.events.result (guest_events t) count h.1) h.2
     ∙ ap (λ (k : ProcessorState). Ends (record (held_state t c.args.bank.now) { core = k }) TraceFull) (sym h.0)
     ∙ ap (λ s. Ends s TraceFull) (sym (ap (with_vectors (bank_state c.step_apart.new.bank)) stop.ensures.state))) stop.ensures.stop))
 
@@ -111,12 +111,12 @@ returns-in-TraceEnds-clause-turn g c =
     not_kept c.args.apart (vector_bytes c.args.bank.now.vectors.vl) (held_state t c.args.bank.now).core
     _ _ _ end.TraceEnds (λ e. cc) refl c.in-TraceEnds.ensures.effect in
     let h = k.1 in
-    let count : c.events-room.result ≡ guest_events t =
-    c.events-room.ensures ∙ ap (λ (l : List Event). t.earlier + length l) c.reserve.ensures.items in
+    let count : c.events.result ≡ guest_events t =
+    c.events.ensures ∙ ap (λ (l : List Event). t.earlier + length l) c.reserve.ensures.items in
     unless_so _ _ _ _ _ _ _ _ k.0 (
       refused_over t.config t.number (guest_events t) (held_state t c.args.bank.now) _ _
           (its_effect t c.args.bank.now c.requires.fit.lengths.vl)
-          (room_left c.events-room.result (guest_events t) count h.1) h.2,
+          (room_left c.events.result (guest_events t) count h.1) h.2,
       ap (λ (k : ProcessorState). record (held_state t c.args.bank.now) { core = k }) h.0,
       made_nothing t.journal.items _ c.reserve.ensures.items,
       c.requires.runs,
@@ -129,12 +129,12 @@ returns-in-TraceDiffers-clause-turn g c =
     not_kept c.args.apart (vector_bytes c.args.bank.now.vectors.vl) (held_state t c.args.bank.now).core
     _ _ _ end.TraceDiffers (λ e. cc) refl c.in-TraceDiffers.ensures.effect in
     let h = k.1 in
-    let count : c.events-room.result ≡ guest_events t =
-    c.events-room.ensures ∙ ap (λ (l : List Event). t.earlier + length l) c.reserve.ensures.items in
+    let count : c.events.result ≡ guest_events t =
+    c.events.ensures ∙ ap (λ (l : List Event). t.earlier + length l) c.reserve.ensures.items in
     unless_so _ _ _ _ _ _ _ _ k.0 (
       refused_over t.config t.number (guest_events t) (held_state t c.args.bank.now) _ _
           (its_effect t c.args.bank.now c.requires.fit.lengths.vl)
-          (room_left c.events-room.result (guest_events t) count h.1) h.2,
+          (room_left c.events.result (guest_events t) count h.1) h.2,
       ap (λ (k : ProcessorState). record (held_state t c.args.bank.now) { core = k }) h.0,
       made_nothing t.journal.items _ c.reserve.ensures.items,
       c.requires.runs,

@@ -2,11 +2,12 @@ use Rattle.std.proofs.Common.{◌+◌, length, ◌∙◌}
 use Rattle.kernel_contexts.proofs.loose.Loose.advance_several.Goals as goal
 
 pub returns : goal.returns
-returns c =
+returns g c =
     let e = c.make_several_turns.ensures in
     record {
       turns = e.turns;
       few = e.few;
+      halted = e.halted;
       owned = e.owned;
       count = e.count;
       made = e.made;
@@ -18,7 +19,7 @@ returns c =
     }
 
 pub invariant_of-self : goal.invariant_of-self
-invariant_of-self c =
+invariant_of-self g c =
     let back = c.make_several_turns.ensures.back in
     record {
       fits = record {

@@ -7,8 +7,9 @@ use Rattle.machine_step.specs.Several.{AreExecuted}
 use Rattle.machine_step.proofs.machine.Machine.make_steps.Given as goal
 
 abbrev pub invariant-steps : goal.invariant-steps
-invariant-steps l = record {
-  executed : AreExecuted l.apart (vector_bytes l.initial.bank.vectors.vl) l.done (core_of l.initial.self (bank_state l.initial.bank))
+invariant-steps g l = record {
+  executed : AreExecuted (g.H.Halts.halts l.halts) l.apart (vector_bytes l.initial.bank.vectors.vl) l.done
+      (core_of l.initial.self (bank_state l.initial.bank))
       (core_of l.self (bank_state l.bank));
   few : l.done ≤ l.most;
   owned : KeepsOwned l.initial.self.pages l.self.pages;
@@ -17,4 +18,4 @@ invariant-steps l = record {
 }
 
 abbrev pub decreases-steps : goal.decreases-steps
-decreases-steps l = l.most - l.done
+decreases-steps g l = l.most - l.done

@@ -1,8 +1,8 @@
 use Rattle.std.proofs.Common.{◌≡◌, rules, ap, length, arith}
+use Rattle.std.proofs.lemmas.Result.{on_ok_weaker}
 use Rattle.paged_memory.specs.Memory.{run_of}
 use Rattle.paged_memory.specs.Pages.{table_of}
 use Rattle.paged_memory.proofs.Order.{same_count}
-use Rattle.paged_memory.proofs.Held.{ok_gives}
 use Rattle.paged_memory.proofs.Counted.{owned_count-also}
 use Rattle.paged_memory.proofs.pages.Pages.own.Goals as goal
 
@@ -16,5 +16,5 @@ pub returns-clause-ok : goal.returns-clause-ok
 returns-clause-ok c = search rules
 
 pub returns-clause-count : goal.returns-clause-count
-returns-clause-count c = ok_gives c.map_err.result (λ owns. owned_count-also c.args.self.now (table_of c.own_run.new.pages.items)
+returns-clause-count c = on_ok_weaker c.map_err.result (λ owns. owned_count-also c.args.self.now (table_of c.own_run.new.pages.items)
     (run_of c.args.address c.args.length) owns) (returns-clause-ok c)

@@ -12,9 +12,10 @@ use Rattle.world_core.specs.View.{world_of}
 use Rattle.sm_types.specs.declared.world_event.WorldEvent.TheVariants as event
 use Rattle.world_core.proofs.Bags.{owned_after, room_after, room_more, absent_there, absent_in}
 use Rattle.world_core.proofs.Lifting.{no_core, found_core, world_applies, each_set}
-use Rattle.std.proofs.lemmas.List.{length-map}
+use Rattle.std.proofs.lemmas.List.{length-map, nil_from_length}
+use Rattle.plain_lemmas.proofs.Lists.{slice_get-found}
 use Rattle.world_core.proofs.Lists.{front_of}
-use Rattle.world_core.proofs.Scenes.{found_at, guests-length, none_in}
+use Rattle.world_core.proofs.Scenes.{guests-length}
 use Rattle.world_core.proofs.world.World.apply.Goals as goal
 
 pub returns-then-index-len : goal.returns-then-index-len
@@ -30,7 +31,7 @@ run-requires-clause-none c =
     let t = c.args.self.now in
     let n = c.core_number-number.result in
     let within : n < length t.cores.items = grind (arith, common_steps, c.len.ensures, c.if-index-len.false) in
-    (t.fit n c.index_mut.result.now (found_at t.cores.items n c.index_mut.result.now within c.index_mut.ensures.value)).none_done
+    (t.fit n c.index_mut.result.now (slice_get-found t.cores.items n c.index_mut.result.now within c.index_mut.ensures.value)).none_done
 
 pub run-requires-clause-room : goal.run-requires-clause-room
 run-requires-clause-room c = λ some.
@@ -38,7 +39,7 @@ run-requires-clause-room c = λ some.
     let n = c.core_number-number.result in
     let within : n < length t.cores.items = grind (arith, common_steps, c.len.ensures, c.if-index-len.false) in
     let here = c.index_mut.result.now in
-    let get = found_at t.cores.items n here within c.index_mut.ensures.value in
+    let get = slice_get-found t.cores.items n here within c.index_mut.ensures.value in
     let count = guests-length (core_state here).residents in
     let room = room_more (world_of t) n (core_guests here) _ _ t.room
     (found_core core_guests t.cores.items (world_of t) refl n here get) (omega (arith, count, some)) in
@@ -51,7 +52,7 @@ invariant_of-self-in-Run c =
     let n = c.core_number-number.result in
     let within : n < length t.cores.items = grind (arith, common_steps, c.len.ensures, c.if-index-len.false) in
     let here = c.index_mut.result.now in
-    let get = found_at t.cores.items n here within c.index_mut.ensures.value in
+    let get = slice_get-found t.cores.items n here within c.index_mut.ensures.value in
     let fit = t.fit n here get in
     let e = c.run.ensures in
     let h = world_applies core_guests t.cores.items (world_of t) refl c.args.event
@@ -74,7 +75,7 @@ returns-in-Run c =
     let here = c.index_mut.result.now in
     world_applies core_guests t.cores.items (world_of t) refl c.args.event (event.Run c.in-Run.core c.in-Run.k) n here c.run.new.core
     (guests_of t.queue.items) (guests_of c.run.new.done.items) c.run.new.port.history c.run.result c.core_number-number.ensures c.in-Run.is
-    (found_at t.cores.items n here within c.index_mut.ensures.value) (c.run.ensures.applies c.in-Run.core (guests_of t.queue.items))
+    (slice_get-found t.cores.items n here within c.index_mut.ensures.value) (c.run.ensures.applies c.in-Run.core (guests_of t.queue.items))
 
 -- ---- Next
 
@@ -84,7 +85,7 @@ invariant_of-self-in-Next c =
     let n = c.core_number-number.result in
     let within : n < length t.cores.items = grind (arith, common_steps, c.len.ensures, c.if-index-len.false) in
     let here = c.index_mut-in-Next.result.now in
-    let get = found_at t.cores.items n here within c.index_mut-in-Next.ensures.value in
+    let get = slice_get-found t.cores.items n here within c.index_mut-in-Next.ensures.value in
     let fit = t.fit n here get in
     let e = c.next.ensures in
     let h = world_applies core_guests t.cores.items (world_of t) refl c.args.event (event.Next c.in-Next.core) n here c.next.new.core
@@ -110,7 +111,7 @@ returns-in-Next c =
     let here = c.index_mut-in-Next.result.now in
     world_applies core_guests t.cores.items (world_of t) refl c.args.event (event.Next c.in-Next.core) n here c.next.new.core
     (guests_of t.queue.items) (guests_of t.done.items) t.port.history c.next.result c.core_number-number.ensures c.in-Next.is
-    (found_at t.cores.items n here within c.index_mut-in-Next.ensures.value)
+    (slice_get-found t.cores.items n here within c.index_mut-in-Next.ensures.value)
     (c.next.ensures.applies c.in-Next.core (guests_of t.queue.items) (guests_of t.done.items) t.port.history)
 
 -- ---- Fetch
@@ -121,7 +122,7 @@ fetch-requires-clause-none c =
     let n = c.core_number-number.result in
     let within : n < length t.cores.items = grind (arith, common_steps, c.len.ensures, c.if-index-len.false) in
     let here = c.index_mut-in-Fetch.result.now in
-    (t.fit n here (found_at t.cores.items n here within c.index_mut-in-Fetch.ensures.value)).none_done
+    (t.fit n here (slice_get-found t.cores.items n here within c.index_mut-in-Fetch.ensures.value)).none_done
 
 pub fetch-requires-clause-options : goal.fetch-requires-clause-options
 fetch-requires-clause-options c = λ i w at.
@@ -129,7 +130,7 @@ fetch-requires-clause-options c = λ i w at.
     let n = c.core_number-number.result in
     let within : n < length t.cores.items = grind (arith, common_steps, c.len.ensures, c.if-index-len.false) in
     let here = c.index_mut-in-Fetch.result.now in
-    t.options i w at ∙ sym (t.fit n here (found_at t.cores.items n here within c.index_mut-in-Fetch.ensures.value)).options
+    t.options i w at ∙ sym (t.fit n here (slice_get-found t.cores.items n here within c.index_mut-in-Fetch.ensures.value)).options
 
 pub fetch-requires-clause-absent : goal.fetch-requires-clause-absent
 fetch-requires-clause-absent c = λ w at.
@@ -137,7 +138,7 @@ fetch-requires-clause-absent c = λ w at.
     let n = c.core_number-number.result in
     let within : n < length t.cores.items = grind (arith, common_steps, c.len.ensures, c.if-index-len.false) in
     let here = c.index_mut-in-Fetch.result.now in
-    let get = found_at t.cores.items n here within c.index_mut-in-Fetch.ensures.value in
+    let get = slice_get-found t.cores.items n here within c.index_mut-in-Fetch.ensures.value in
     let split = front_of t.queue.items w at in
     let none = absent_there (world_of t) n (core_guests here) (guests_of split.0) (guest_of w.context) t.owned
     (ap (λ l. map (λ x. guest_of x.context) l) split.1)
@@ -145,7 +146,7 @@ fetch-requires-clause-absent c = λ w at.
     record {
       resident = absent_in (core_state here).residents (thread_of w.context) none;
       stopped = subst (All (λ (h : Held PlainEvents). h.guest.number ≢ thread_of w.context))
-          (sym (none_in (core_state here).done (t.fit n here get).none_done))
+          (sym (nil_from_length (core_state here).done (t.fit n here get).none_done))
           (All-nil (λ (h : Held PlainEvents). h.guest.number ≢ thread_of w.context));
     }
 
@@ -155,7 +156,7 @@ invariant_of-self-in-Fetch c =
     let n = c.core_number-number.result in
     let within : n < length t.cores.items = grind (arith, common_steps, c.len.ensures, c.if-index-len.false) in
     let here = c.index_mut-in-Fetch.result.now in
-    let get = found_at t.cores.items n here within c.index_mut-in-Fetch.ensures.value in
+    let get = slice_get-found t.cores.items n here within c.index_mut-in-Fetch.ensures.value in
     let fit = t.fit n here get in
     let e = c.fetch.ensures in
     let h = world_applies core_guests t.cores.items (world_of t) refl c.args.event (event.Fetch c.in-Fetch.core) n here c.fetch.new.core
@@ -181,7 +182,7 @@ returns-in-Fetch c =
     let here = c.index_mut-in-Fetch.result.now in
     world_applies core_guests t.cores.items (world_of t) refl c.args.event (event.Fetch c.in-Fetch.core) n here c.fetch.new.core
     (guests_of c.fetch.new.queue.items) (guests_of t.done.items) t.port.history c.fetch.result c.core_number-number.ensures c.in-Fetch.is
-    (found_at t.cores.items n here within c.index_mut-in-Fetch.ensures.value)
+    (slice_get-found t.cores.items n here within c.index_mut-in-Fetch.ensures.value)
     (c.fetch.ensures.applies c.in-Fetch.core (guests_of t.done.items) t.port.history)
 
 -- ---- Offer
@@ -192,7 +193,7 @@ offer-requires-clause-options c = λ i w at.
     let n = c.core_number-number.result in
     let within : n < length t.cores.items = grind (arith, common_steps, c.len.ensures, c.if-index-len.false) in
     let here = c.index_mut-in-Offer.result.now in
-    t.options i w at ∙ sym (t.fit n here (found_at t.cores.items n here within c.index_mut-in-Offer.ensures.value)).options
+    t.options i w at ∙ sym (t.fit n here (slice_get-found t.cores.items n here within c.index_mut-in-Offer.ensures.value)).options
 
 pub offer-requires-clause-room : goal.offer-requires-clause-room
 offer-requires-clause-room c = λ some.
@@ -200,7 +201,7 @@ offer-requires-clause-room c = λ some.
     let n = c.core_number-number.result in
     let within : n < length t.cores.items = grind (arith, common_steps, c.len.ensures, c.if-index-len.false) in
     let here = c.index_mut-in-Offer.result.now in
-    let get = found_at t.cores.items n here within c.index_mut-in-Offer.ensures.value in
+    let get = slice_get-found t.cores.items n here within c.index_mut-in-Offer.ensures.value in
     let count = guests-length (core_state here).residents in
     let room = room_more (world_of t) n (core_guests here) _ _ t.room
     (found_core core_guests t.cores.items (world_of t) refl n here get) (omega (arith, count, some)) in
@@ -213,7 +214,7 @@ invariant_of-self-in-Offer c =
     let n = c.core_number-number.result in
     let within : n < length t.cores.items = grind (arith, common_steps, c.len.ensures, c.if-index-len.false) in
     let here = c.index_mut-in-Offer.result.now in
-    let get = found_at t.cores.items n here within c.index_mut-in-Offer.ensures.value in
+    let get = slice_get-found t.cores.items n here within c.index_mut-in-Offer.ensures.value in
     let fit = t.fit n here get in
     let e = c.offer.ensures in
     let h = world_applies core_guests t.cores.items (world_of t) refl c.args.event (event.Offer c.in-Offer.core) n here c.offer.new.core
@@ -239,5 +240,5 @@ returns-in-Offer c =
     let here = c.index_mut-in-Offer.result.now in
     world_applies core_guests t.cores.items (world_of t) refl c.args.event (event.Offer c.in-Offer.core) n here c.offer.new.core
     (guests_of c.offer.new.queue.items) (guests_of t.done.items) t.port.history c.offer.result c.core_number-number.ensures c.in-Offer.is
-    (found_at t.cores.items n here within c.index_mut-in-Offer.ensures.value)
+    (slice_get-found t.cores.items n here within c.index_mut-in-Offer.ensures.value)
     (c.offer.ensures.applies c.in-Offer.core (guests_of t.done.items) t.port.history)

@@ -1,7 +1,6 @@
 use Rattle.std.proofs.Common.{◌+◌, ◌++◌, take, drop, refl, ap, sym, ◌∙◌, arith}
 use Rattle.std.proofs.lemmas.Grind.{common_steps}
-use Rattle.std.proofs.lemmas.List.{take_more, take-append-drop}
-use Rattle.world_core.proofs.Lists.{drop_at}
+use Rattle.std.proofs.lemmas.List.{take_more, take-append-drop, drop_more}
 use Rattle.world_core.specs.Happens.{world_after, answers_after}
 use Rattle.world_core.specs.View.{world_of}
 use Rattle.world_core.proofs.Events.{world_more, answers_more, ended_early}
@@ -24,7 +23,7 @@ returns-then-wants_memory-clause-all c =
     ended_early (world_of c.args.self.now) (take i es) _ (world_of c.events.self) (world_of c.apply-answer.new.self) c.events.answers.items
     c.push_reserved.new.self.items c.apply-answer.result h.world h.answers c.push_reserved.ensures.items c.apply-answer.ensures es
     (drop (i + 1) es) (sym c.wants_memory.ensures ∙ c.if-wants_memory.true)
-    (sym (take-append-drop i es) ∙ ap (λ l. take i es ++ l) (drop_at es i _ c.events-test.true))
+    (sym (take-append-drop i es) ∙ ap (λ l. take i es ++ l) (drop_more es i _ c.events-test.true))
 
 pub events-preserved : goal.events-preserved
 events-preserved c =

@@ -1,0 +1,20 @@
+use Rattle.std.proofs.Common.{◌-◌, ◌≤◌}
+use Rattle.paged_memory.specs.PageTable.{KeepsOwned}
+use Rattle.mem_access.specs.Bank.{bank_state}
+use Rattle.machine_step.specs.ProcessorState.{vector_bytes}
+use Rattle.machine_step.specs.Machine.{core_of, IsInMode, IsSameBank}
+use Rattle.machine_step.specs.Several.{AreExecuted}
+use Rattle.machine_step.proofs.machine.Machine.run_known.Given as goal
+
+abbrev pub invariant-runs : goal.invariant-runs
+invariant-runs g l = record {
+  executed : AreExecuted (g.H.Halts.halts l.halts) l.apart (vector_bytes l.initial.bank.vectors.vl) l.done
+      (core_of l.initial.self (bank_state l.initial.bank)) (core_of l.self (bank_state l.bank));
+  few : l.done ≤ l.most;
+  owned : KeepsOwned l.initial.self.pages l.self.pages;
+  same : IsSameBank l.initial.bank l.bank;
+  mode : IsInMode l.bank l.self;
+}
+
+abbrev pub decreases-runs : goal.decreases-runs
+decreases-runs g l = l.most - l.done

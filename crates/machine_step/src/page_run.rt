@@ -1,0 +1,285 @@
+//! Instructions of one page of code that is held: those that are known, and that read and write registers
+//! alone or make one access.
+ghost use Rattle.std.specs.Prelude.{◌≡◌, ◌&&◌, ◌%◌, ◌<◌, ◌≤◌, Bool, IsTrue, Some, false, true, length};
+ghost use Rattle.a64_encode.specs.Either.{instruction_of};
+ghost use Rattle.mem_access.specs.Transfer.{is_access};
+ghost use Rattle.paged_memory.specs.Memory.{bytes_with, word_at};
+ghost use Rattle.paged_memory.specs.PageTable.{KeepsOwned};
+ghost use Rattle.mem_access.specs.Bank.{bank_state};
+ghost use Rattle.machine_step.specs.ProcessorState.{VectorState, vector_bytes};
+ghost use Rattle.machine_step.specs.Effect.{effect_of};
+ghost use Rattle.machine_step.specs.Needs.{needs_bank};
+ghost use Rattle.machine_step.specs.Machine.{core_of, AttemptsOn, IsInMode, IsSameBank, KeepsMode};
+ghost use Rattle.machine_step.specs.Computed.{AreComputed};
+ghost use Rattle.machine_step.specs.Next.{Follows};
+ghost use Rattle.machine_step.specs.Several.{AreExecuted};
+
+use crate::at_once::Attempt;
+use crate::decoder::{Decoded, Decoder};
+use crate::halts::Halts;
+use crate::machine::Machine;
+use mem_access::Bank;
+use paged_memory::{Pages, word_of};
+use scalar_exec::Flat;
+use sm_types::{AccessSize, Address, Insn, LoadStore, LoadStoreOp, Scalars};
+
+/// What is known of the instruction at PC.
+#[derive(Clone, Copy)]
+pub(crate) enum Next {
+    /// Nothing.
+    Unknown,
+    /// It is the kept one of this place, and none to halt before.
+    Kept(usize),
+    /// It has this word, and is none to halt before.
+    Word(u32),
+    /// It is one to halt before, of this word.
+    Halts(u32),
+}
+
+/// Whether a distance from the base of a page is that of one of its words: it is below 4096, and a multiple
+/// of 4, which is one test of these bits.
+#[inline(always)]
+fn is_word_place(at: u64) -> bool
+    ensures within { result ≡ true → at < 4096 }
+    ensures aligned { result ≡ true → at % 4 ≡ 0 }
+{
+    at & 0xFFFF_FFFF_FFFF_F003 == 0
+}
+
+/// Executes instructions of the page from a base on, of which the code is all the bytes, one after the other,
+/// `most` at most, and tells how many, and what is known of the next one. It ends before one
+/// that lies elsewhere, that is not known, to halt before, or that does more than to read and write registers
+/// or to load one.
+#[inline(always)]
+fn act_known<H: Halts>(
+    s: &mut Scalars,
+    bank: &mut Bank,
+    pages: &Pages,
+    code: &[u8],
+    base: u64,
+    places: &[Decoded],
+    halts: &H,
+    apart: bool,
+    most: u32,
+) -> (u32, Next)
+    requires full { length code.now ≡ 4096 }
+    requires places { length places.now ≡ 1024 }
+    requires base { base % 4096 ≡ 0 }
+    requires held { bytes_with 1 pages.now.memory base 4096 ≡ Some code.now }
+    ensures computed { AreComputed (H.halts halts.now) apart pages.now.memory result.0 s.old bank.old s.new
+        bank.new }
+    ensures few { result.0 ≤ most }
+    ensures next { Follows (H.halts halts.now) pages.now.memory places.now s.new result.1 }
+{
+    let mut left = most;
+    let mut at = s.pc.wrapping_sub(base);
+    'turns: while left > 0 {
+        if !is_word_place(at) {
+            s.pc = base.wrapping_add(at);
+            return (most - left, Next::Unknown);
+        }
+        let place = at as usize;
+        let known = &places[place / 4];
+        if known.word() != word_of(code, place) {
+            s.pc = base.wrapping_add(at);
+            return (most - left, Next::Unknown);
+        }
+        if halts.halts(base.wrapping_add(at), known.word()) {
+            s.pc = base.wrapping_add(at);
+            return (most - left, Next::Halts(known.word()));
+        }
+        match known.act_at(s, bank, pages, base, at, apart) {
+            Some(next) => at = next,
+            None => return (most - left, Next::Kept(place / 4)),
+        }
+        left -= 1;
+    }
+    s.pc = base.wrapping_add(at);
+    (most - left, Next::Unknown)
+}
+
+impl Machine {
+    /// Executes instructions of the page of PC that are known and read and write registers alone, or load
+    /// one, `most` at most, and tells how many, and what is known of the next one.
+    #[inline(always)]
+    fn run_page<H: Halts>(
+        &mut self,
+        decoder: &Decoder,
+        bank: &mut Bank,
+        halts: &H,
+        apart: bool,
+        most: u32,
+    ) -> (u32, Next)
+        requires { IsInMode bank.old self.old }
+        ensures executed { AreExecuted (H.halts halts.now) apart (vector_bytes bank.old.vectors.vl) result.0
+            (core_of self.old (bank_state bank.old)) (core_of self.new (bank_state bank.new)) }
+        ensures few { result.0 ≤ most }
+        ensures next { Follows (H.halts halts.now) self.new.pages.memory decoder.now.places.items
+            self.new.scalars result.1 }
+        ensures pages { self.new.pages ≡ self.old.pages }
+        ensures same { IsSameBank bank.old bank.new }
+        ensures mode { IsInMode bank.new self.new }
+    {
+        let base = self.scalars.pc / 4096 * 4096;
+        match self.pages.code(base) {
+            Some(code) => act_known(
+                &mut self.scalars,
+                bank,
+                &self.pages,
+                code,
+                base,
+                decoder.places(),
+                halts,
+                apart,
+                most,
+            ),
+            None => (0, Next::Unknown),
+        }
+    }
+
+    /// The same with the loads and stores of one and two registers that are made at once: after each the page
+    /// is looked up again, since a store may write to it.
+    #[inline(always)]
+    pub(crate) fn run_known<H: Halts>(
+        &mut self,
+        decoder: &Decoder,
+        bank: &mut Bank,
+        halts: &H,
+        apart: bool,
+        most: u32,
+    ) -> (u32, Next)
+        requires { IsInMode bank.old self.old }
+        ensures executed { AreExecuted (H.halts halts.now) apart (vector_bytes bank.old.vectors.vl) result.0
+            (core_of self.old (bank_state bank.old)) (core_of self.new (bank_state bank.new)) }
+        ensures few { result.0 ≤ most }
+        ensures next { Follows (H.halts halts.now) self.new.pages.memory decoder.now.places.items
+            self.new.scalars result.1 }
+        ensures owned { KeepsOwned self.old.pages self.new.pages }
+        ensures same { IsSameBank bank.old bank.new }
+        ensures mode { IsInMode bank.new self.new }
+    {
+        let mut done = 0;
+        'runs: while done < most {
+            let (made, next) = self.run_page(decoder, bank, halts, apart, most - done);
+            done += made;
+            let Next::Kept(place) = next else {
+                return (done, next);
+            };
+            if done == most {
+                return (done, next);
+            }
+            match self.store_known(decoder.kept(place)) {
+                Attempt::Done => done += 1,
+                Attempt::Waits => return (done, next),
+                Attempt::Memory => return (done, Next::Unknown),
+            }
+        }
+        (done, Next::Unknown)
+    }
+
+    /// Makes the access of the instruction at PC at once, if it is a load or a store of one or two registers;
+    /// it is the kept one.
+    #[inline(always)]
+    fn store_known(&mut self, known: &Decoded) -> Attempt
+        requires aligned { self.old.scalars.pc % 4 ≡ 0 }
+        requires fetched { word_at self.old.pages.memory self.old.scalars.pc ≡ Some known.now.word }
+        ensures effect { (bank : Bank) → AttemptsOn effect_of self.old bank self.new bank result }
+        ensures kept { result ≡ Attempt.Done → (apart : Bool) (bank : VectorState)
+            → (apart && needs_bank (core_of self.old bank)) ≡ false }
+        ensures owned { KeepsOwned self.old.pages self.new.pages }
+        ensures mode { KeepsMode self.old self.new }
+    {
+        let word = known.word();
+        match known.flat() {
+            Flat::StoreDoubleword(x) => {
+                let address = Address::Offset { imm: x.imm };
+                self.access_known(word, &store_by(AccessSize::Doubleword, address, x.rn, x.rt))
+            }
+            Flat::StoreWord(x) => {
+                let address = Address::Offset { imm: x.imm };
+                self.access_known(word, &store_by(AccessSize::Word, address, x.rn, x.rt))
+            }
+            Flat::StoreHalfword(x) => {
+                let address = Address::Offset { imm: x.imm };
+                self.access_known(word, &store_by(AccessSize::Halfword, address, x.rn, x.rt))
+            }
+            Flat::StoreByte(x) => {
+                let address = Address::Offset { imm: x.imm };
+                self.access_known(word, &store_by(AccessSize::Byte, address, x.rn, x.rt))
+            }
+            Flat::StoreDoublewordAt(x, Address::PostIndex { offset }) => {
+                let address = Address::PostIndex { offset };
+                self.access_known(word, &store_by(AccessSize::Doubleword, address, x.rn, x.rt))
+            }
+            Flat::StoreDoublewordAt(x, address) => {
+                self.access_known(word, &store_by(AccessSize::Doubleword, address, x.rn, x.rt))
+            }
+            Flat::StoreWordAt(x, address) => {
+                self.access_known(word, &store_by(AccessSize::Word, address, x.rn, x.rt))
+            }
+            Flat::StoreHalfwordAt(x, address) => {
+                self.access_known(word, &store_by(AccessSize::Halfword, address, x.rn, x.rt))
+            }
+            Flat::StoreByteAt(x, address) => {
+                self.access_known(word, &store_by(AccessSize::Byte, address, x.rn, x.rt))
+            }
+            _ => match known.insn() {
+                Insn::LoadStore(_) => self.access_by_call(word, known.insn()),
+                Insn::LoadStorePair(_) => self.access_by_call(word, known.insn()),
+                _ => Attempt::Waits,
+            },
+        }
+    }
+
+    /// Makes the access of a load or a store at once, which the word at PC means.
+    #[inline(always)]
+    fn access_known(&mut self, word: u32, insn: &Insn) -> Attempt
+        requires access { IsTrue (is_access insn.now) }
+        requires means { instruction_of word ≡ Some insn.now }
+        requires aligned { self.old.scalars.pc % 4 ≡ 0 }
+        requires fetched { word_at self.old.pages.memory self.old.scalars.pc ≡ Some word }
+        ensures effect { (bank : Bank) → AttemptsOn effect_of self.old bank self.new bank result }
+        ensures kept { (apart : Bool) (bank : VectorState)
+            → (apart && needs_bank (core_of self.old bank)) ≡ false }
+        ensures owned { KeepsOwned self.old.pages self.new.pages }
+        ensures mode { KeepsMode self.old self.new }
+    {
+        self.access_at_once(insn)
+    }
+
+    /// The same by a call.
+    #[inline(never)]
+    fn access_by_call(&mut self, word: u32, insn: &Insn) -> Attempt
+        requires access { IsTrue (is_access insn.now) }
+        requires means { instruction_of word ≡ Some insn.now }
+        requires aligned { self.old.scalars.pc % 4 ≡ 0 }
+        requires fetched { word_at self.old.pages.memory self.old.scalars.pc ≡ Some word }
+        ensures effect { (bank : Bank) → AttemptsOn effect_of self.old bank self.new bank result }
+        ensures kept { (apart : Bool) (bank : VectorState)
+            → (apart && needs_bank (core_of self.old bank)) ≡ false }
+        ensures owned { KeepsOwned self.old.pages self.new.pages }
+        ensures mode { KeepsMode self.old self.new }
+    {
+        self.access_known(word, insn)
+    }
+}
+
+/// Stores a register.
+#[inline(always)]
+fn store_by(size: AccessSize, address: Address, rn: u8, rt: u8) -> Insn
+    ensures { result ≡ Insn.LoadStore (record {
+      op = LoadStoreOp.Store;
+      size = size;
+      address = address;
+      rn = rn;
+      rt = rt;
+    }) }
+{
+    Insn::LoadStore(LoadStore {
+        op: LoadStoreOp::Store,
+        size,
+        address,
+        rn,
+        rt,
+    })
+}

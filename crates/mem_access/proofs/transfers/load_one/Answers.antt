@@ -1,0 +1,36 @@
+use Rattle.std.proofs.Common.{true, false, refl, ◌∙◌}
+use Rattle.sm_types.specs.declared.insn.Insn.TheVariants as insn
+use Rattle.sm_types.specs.declared.insn.LoadStoreOp.{LoadStoreOp}
+use Rattle.sm_types.specs.declared.insn.LoadStoreOp.TheVariants.{Store, Load, LoadSignedTo64, LoadSignedTo32}
+use Rattle.std.proofs.Common.{◌≡◌, IsTrue}
+use Rattle.mem_access.specs.Access.{bytes_in, is_load, is_store, load_store_access}
+use Rattle.mem_access.specs.Runs.{after_load_store}
+use Rattle.mem_access.proofs.Faults.{raised, made_reading, transfers_as}
+use Rattle.mem_access.proofs.Lists.{transfer_fault-is, after_access-is}
+use Rattle.mem_access.proofs.transfers.load_one.Goals as goal
+
+stores_not : (op : LoadStoreOp) → IsTrue (is_load op) → is_store op ≡ false
+stores_not Store h = cc
+stores_not Load h = refl
+stores_not LoadSignedTo64 h = refl
+stores_not LoadSignedTo32 h = refl
+
+pub returns-in-Some : goal.returns-in-Some
+returns-in-Some c =
+    let it = insn.LoadStore c.args.x.now in (
+      transfer_fault-is it c.args.s.now c.args.pages.now.memory
+          ∙ raised (load_store_access c.args.x.now c.args.s.now) _ c.args.s.now c.args.pages.now.memory _
+          c.load_store_access-access.ensures.value c.in-Some.ensures,
+      refl,
+    )
+
+pub returns-in-None : goal.returns-in-None
+unfolding load_store_access
+returns-in-None c =
+    let x = c.args.x.now in
+    let it = insn.LoadStore x in
+    transfers_as _ _ _ _ _ _ c.load.result (transfer_fault-is it c.args.s.now c.args.pages.now.memory)
+    (after_access-is it c.args.s.now c.args.pages.now.memory)
+    (made_reading (load_store_access x c.args.s.now) _ c.args.s.now c.args.pages.now.memory (bytes_in x.size)
+    (λ a. after_load_store x.op x a c.args.s.now c.args.pages.now.memory) _ _ c.load.result c.load_store_access-access.ensures.value
+    c.in-None.ensures c.requires.load (stores_not x.op c.requires.load) refl c.load.ensures.made)

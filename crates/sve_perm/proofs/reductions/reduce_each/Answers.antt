@@ -1,0 +1,34 @@
+use Rattle.std.proofs.Common.{◌≡◌, ◌*◌, map, ap, ◌∙◌, sym, arith}
+use Rattle.vector_elements.specs.Elements.{element_of, bit_of}
+use Rattle.vector_elements.specs.Numbers.{bytes_in}
+use Rattle.sve_perm.specs.Active.{active_places}
+use Rattle.sve_perm.proofs.Sums.{none-yet, elements-more, all-joined}
+use Rattle.sve_perm.proofs.reductions.reduce_each.Goals as goal
+
+pub loop-i-init : goal.loop-i-init
+loop-i-init g c = (
+  c.neutral-total.ensures.value
+      ∙ ap (g.R.Reduction.gives c.args.reduction c.args.size) (sym (none-yet c.args.size c.args.pg.now c.args.n.now)),
+  c.neutral-total.ensures.fits,
+)
+
+pub loop-i-preserved : goal.loop-i-preserved
+loop-i-preserved g c =
+    let on = c.bit.ensures ∙ ap (λ w. bit_of c.args.pg.now (w * c.loop-i.i)) c.bytes-width.ensures in
+    let so_far = map (element_of (bytes_in c.args.size) c.args.n.now) (active_places c.args.size c.args.pg.now c.loop-i.i) in (
+      c.join_where-total.ensures.value so_far c.loop-i.invariant.0
+          ∙ ap (g.R.Reduction.gives c.args.reduction c.args.size)
+          (elements-more c.args.size c.args.pg.now c.args.n.now c.loop-i.i c.element-x.result c.bit.result c.element-x.ensures.value on),
+      c.join_where-total.ensures.fits,
+    )
+
+pub returns-clause-value : goal.returns-clause-value
+returns-clause-value g c =
+    let all : c.loop-i.i ≡ c.count-i-end.result = (let end = c.loop-i-test.false in let most = c.loop-i.auto.i-end in omega (
+      arith,
+      end,
+      most,
+    )) in
+    c.loop-i.invariant.0
+    ∙ ap (g.R.Reduction.gives c.args.reduction c.args.size)
+    (all-joined c.args.size c.args.pg.now c.args.n.now c.loop-i.i (all ∙ c.count-i-end.ensures))
