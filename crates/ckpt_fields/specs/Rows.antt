@@ -28,29 +28,31 @@
 use Rattle.std.specs.Prelude.{ℕ, ◌+◌, ◌*◌, ◌/◌, ◌%◌, ◌^◌, ◌==◌, ◌&&◌, ◌||◌, not, nat_lt, nat_le}
 use Rattle.std.specs.Prelude.{Bool, true, if◌then◌else◌, List, [], ◌∷◌, length, map, slice_index, Option, Some, option_map}
 use Rattle.sm_types.specs.declared.numbers.Numbers.{Numbers}
+use Rattle.sm_types.specs.declared.limits.TheConstants.{JOURNAL_LIMIT, OUTPUT_LIMIT, PAGE_SIZE, PAGE_LIMIT}
+use Rattle.sm_types.specs.declared.limits.TheConstants.{FILE_LIMIT, SHARED_PAGE}
 use Rattle.report_reader.specs.Report.{Report}
 use Rattle.field_table.specs.Table.{Table, End, first_bad}
 use Rattle.field_table.specs.Rows.{number, said, told, fields, repeated}
 
 -- ---- from the end on
 
--- a multiple of 4096 from the least on, and not the shared region's
+-- the start of a page, from the least address on, and not of the shared one
 abbrev pub is_page_address : ℕ → ℕ → Bool
-is_page_address least a = nat_le least a && (a % 4096 == 0) && not (a == 0x7F0000000000)
+is_page_address least a = nat_le least a && (a % PAGE_SIZE == 0) && not (a == SHARED_PAGE)
 
 -- a page from the least address on; the next one is past it
 unfoldable pub page_row : ℕ → (ℕ → Table) → Table
 page_row least next =
     number 8 (is_page_address least) (λ a.
-    number 1 (λ flags. nat_lt flags 8) (λ flags. fields 1 4096 (next (a + 1))))
+    number 1 (λ flags. nat_lt flags 8) (λ flags. fields 1 PAGE_SIZE (next (a + 1))))
 
 -- how many pages there are, and each of them
 unfoldable pub pages_of : Table
-pages_of = number 4 (λ n. nat_le n 4096) (λ n. repeated page_row n 0 End)
+pages_of = number 4 (λ n. nat_le n PAGE_LIMIT) (λ n. repeated page_row n 0 End)
 
 -- how many bytes of output there are, and these bytes
 unfoldable pub output_rows : Table → Table
-output_rows next = number 4 (λ n. nat_le n 1048576) (λ n. fields 1 n next)
+output_rows next = number 4 (λ n. nat_le n OUTPUT_LIMIT) (λ n. fields 1 n next)
 
 -- a signal above the last one
 abbrev pub is_signal_past : ℕ → ℕ → Bool
@@ -119,7 +121,7 @@ is_count there budget count = nat_lt count there && nat_lt count budget
 
 -- at most as many as the thread's journal has, and at most 262,144
 abbrev pub are_events : ℕ → ℕ → Bool
-are_events there events = nat_le events there && nat_le events 262144
+are_events there events = nat_le events there && nat_le events JOURNAL_LIMIT
 
 -- from the thread on
 unfoldable pub thread_rows : Report → Table → Table
@@ -185,4 +187,4 @@ pub data Fault : Type 0 where
 -- the fault of a file, if it is no checkpoint
 unfoldable pub checkpoint_fault : Report → List ℕ → Option Fault
 checkpoint_fault report bytes =
-    if nat_lt 67108864 (length bytes) then Some TooLong else option_map Field (bad_field report bytes)
+    if nat_lt FILE_LIMIT (length bytes) then Some TooLong else option_map Field (bad_field report bytes)

@@ -4,6 +4,7 @@ use Rattle.std.specs.List.{flat_map}
 use Rattle.bit_ops.specs.Sums.{bool_number}
 use Rattle.byteorder.specs.Endian.{little_bytes}
 use Rattle.sm_types.specs.declared.numbers.Numbers.{Numbers}
+use Rattle.sm_types.specs.declared.limits.TheConstants.{OUTPUT_LIMIT, PAGE_LIMIT}
 use Rattle.field_table.specs.Rows.{rows}
 use Rattle.paged_memory.specs.declared.page_list.PageImage.{PageImage}
 use Rattle.ckpt_fields.specs.Rows.{tag, length_for, array_size}
@@ -115,6 +116,6 @@ pub record HasSizes (options : Numbers) (f : StateFields) : Type 0 where
   pub vectors : HasVectorSizes options f.system.svcr f.vectors
   pub handlers : All IsNarrowHandler f.handlers.items
   pub few_handlers : length f.handlers.items ≤ 62
-  pub few_bytes : length f.output.now ≤ 1048576
+  pub few_bytes : length f.output.now ≤ OUTPUT_LIMIT
   pub pages : All IsNarrowPage f.pages.items
-  pub few_pages : length f.pages.items ≤ 4096
+  pub few_pages : length f.pages.items ≤ PAGE_LIMIT

@@ -12,18 +12,11 @@ use crate::fault::CkptFault;
 use crate::state::SignalHandler;
 use field_table::{BadField, Place};
 use paged_memory::{PageImage, PageList};
+use sm_types::{OUTPUT_LIMIT, PAGE_LIMIT, PAGE_SIZE, SHARED_PAGE};
 use std::alloc::Global;
 
 /// The most signals that have handlers, and the highest of them.
 const SIGNALS: u32 = 62;
-/// The most bytes of output.
-const OUTPUT_LIMIT: u32 = 1_048_576;
-/// The most pages.
-const PAGE_LIMIT: u32 = 4_096;
-/// How many bytes a page has.
-const PAGE_SIZE: usize = 4_096;
-/// Where the shared region stands, which is no page of a thread.
-const SHARED_REGION: u64 = 0x7f00_0000_0000;
 
 /// Whether a signal is one of 1 to 62, above the last one.
 fn is_signal_past(last: u32, signal: u32) -> bool
@@ -73,7 +66,7 @@ pub(crate) fn read_handlers(
 pub(crate) fn read_output<'a>(place: &mut Place<'a>) -> Result<&'a [u8], BadField>
     ensures read { (next : Table) → Answers (output_rows next) (λ output. output_values output.now)
         (λ _. next) (left_of place.old) (left_of place.new) result }
-    ensures few { IfOk result (λ output. length output.now ≤ 1048576) }
+    ensures few { IfOk result (λ output. length output.now ≤ OUTPUT_LIMIT) }
 {
     let size = place.word();
     place.pass_word(size, size <= OUTPUT_LIMIT)?;
@@ -85,7 +78,7 @@ pub(crate) fn read_output<'a>(place: &mut Place<'a>) -> Result<&'a [u8], BadFiel
 fn is_page_address(least: u64, address: u64) -> bool
     ensures { result ≡ row.is_page_address least address }
 {
-    least <= address && address % 4096 == 0 && address != SHARED_REGION
+    least <= address && address % u64::from(PAGE_SIZE) == 0 && address != SHARED_PAGE
 }
 
 /// Reads a page, whose address is the least or above it.
@@ -93,14 +86,14 @@ fn read_page(alloc: Global, place: &mut Place, least: u64) -> Result<PageImage, 
     ensures read { (next : ℕ → Table) → AnswersOrLacks (row.page_row least next)
         (λ p. page_value (page_said p)) (λ p. next (p.address + 1)) (left_of place.old) (left_of place.new)
         result }
-    ensures aligned { IfOk result (λ p. p.address % 4096 ≡ 0) }
+    ensures aligned { IfOk result (λ p. p.address % PAGE_SIZE ≡ 0) }
     ensures narrow { IfOk result IsNarrowPage }
 {
     let address = place.doubleword();
     place.pass_doubleword(address, is_page_address(least, address))?;
     let flags = place.byte();
     place.pass_byte(flags, flags < 8)?;
-    let bytes = place.pass_fields(1, PAGE_SIZE)?;
+    let bytes = place.pass_fields(1, PAGE_SIZE as usize)?;
     let bytes = Vec::from_slice(alloc, bytes)?;
     Ok(PageImage {
         address,
@@ -114,7 +107,7 @@ pub(crate) fn read_pages(alloc: Global, place: &mut Place) -> Result<PageList, C
     ensures read { AnswersOrLacks pages_of (λ pages. page_values (map page_said pages.items)) (λ _. End)
         (left_of place.old) (left_of place.new) result }
     ensures narrow { IfOk result (λ pages. All IsNarrowPage pages.items) }
-    ensures few { IfOk result (λ pages. length pages.items ≤ 4096) }
+    ensures few { IfOk result (λ pages. length pages.items ≤ PAGE_LIMIT) }
 {
     let count = place.word();
     place.pass_word(count, count <= PAGE_LIMIT)?;

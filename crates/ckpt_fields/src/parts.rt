@@ -16,12 +16,10 @@ ghost use Rattle.ckpt_fields.specs.Told.{Answers};
 use crate::state::{Progress, System, VectorBytes};
 use field_table::{BadField, Place};
 use report_reader::Report;
-use sm_types::Config;
+use sm_types::{Config, JOURNAL_LIMIT};
 
 /// The bytes with which the file begins.
 const TAG: [u8; 8] = *b"SMECKPT1";
-/// The most events that a thread has.
-const JOURNAL_LIMIT: u32 = 262_144;
 
 /// Passes a number of 4 bytes, which is to be that one.
 fn expect_word(place: &mut Place, number: u32) -> Result<(), BadField>

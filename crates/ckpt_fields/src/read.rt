@@ -14,10 +14,8 @@ use crate::parts::{expect_first, read_progress, read_registers, read_system, rea
 use crate::state::StateFields;
 use field_table::Place;
 use report_reader::Report;
+use sm_types::FILE_LIMIT;
 use std::alloc::Global;
-
-/// The most bytes that the file may have.
-const LARGEST_FILE: usize = 67_108_864;
 
 /// Reads the file of a thread's state, for a report of its run. `TooLong` and `Field` come exactly where the
 /// table says so; `Memory` is want of memory for the handlers or the pages.
@@ -34,7 +32,7 @@ pub fn read_fields<'a>(
     ensures sizes { IfOk result (HasSizes (numbers_of report.now.config)) }
     ensures good { IfOk result (λ _. checkpoint_fault (report_said report.now) bytes.now ≡ None) }
 {
-    if bytes.len() > LARGEST_FILE {
+    if bytes.len() > FILE_LIMIT as usize {
         return Err(CkptFault::TooLong);
     }
     let mut place = Place::of(bytes);
