@@ -5,21 +5,21 @@ use Rattle.ckpt_fields.specs.Values.{fields_said}
 use Rattle.ckpt_fields.proofs.Faults.{too_long, fault_more, file_fails, file_fault, file_whole, file_filled, file_good}
 use Rattle.ckpt_fields.proofs.read.read_fields.Goals as goal
 
-pub returns-then-bytes-gt-FILE_LIMIT-clause-fault : goal.returns-then-bytes-gt-FILE_LIMIT-clause-fault
-returns-then-bytes-gt-FILE_LIMIT-clause-fault c =
-    too_long (report_said c.args.report.now) c.args.bytes.now c.if-bytes-gt-FILE_LIMIT.true
+pub returns-then-bytes-clause-fault : goal.returns-then-bytes-clause-fault
+returns-then-bytes-clause-fault c =
+    too_long (report_said c.args.report.now) c.args.bytes.now c.if-bytes.true
 
 pub returns-in_err-expect_first-clause-fault : goal.returns-in_err-expect_first-clause-fault
 unfolding checkpoint_table
 returns-in_err-expect_first-clause-fault c =
-    file_fails _ _ _ _ _ c.of-place.ensures c.if-bytes-gt-FILE_LIMIT.false c.from_residual.ensures.1
+    file_fails _ _ _ _ _ c.of-place.ensures c.if-bytes.false c.from_residual.ensures.1
     (c.in_err-expect_first.ensures (from_thread (report_said c.args.report.now)))
 
 pub returns-in_err-progress-clause-fault : goal.returns-in_err-progress-clause-fault
 unfolding checkpoint_table
 returns-in_err-progress-clause-fault c =
     let report = report_said c.args.report.now in
-    file_fails _ _ _ _ _ c.of-place.ensures c.if-bytes-gt-FILE_LIMIT.false c.from_residual-in_err-progress.ensures.1
+    file_fails _ _ _ _ _ c.of-place.ensures c.if-bytes.false c.from_residual-in_err-progress.ensures.1
     (fails_more (c.in_ok-expect_first.ensures (from_thread report))
     (c.in_err-progress.ensures (from_registers report)))
 
@@ -27,7 +27,7 @@ pub returns-in_err-registers-clause-fault : goal.returns-in_err-registers-clause
 unfolding checkpoint_table
 returns-in_err-registers-clause-fault c =
     let report = report_said c.args.report.now in
-    file_fails _ _ _ _ _ c.of-place.ensures c.if-bytes-gt-FILE_LIMIT.false c.from_residual-in_err-registers.ensures.1
+    file_fails _ _ _ _ _ c.of-place.ensures c.if-bytes.false c.from_residual-in_err-registers.ensures.1
     (fails_more (c.in_ok-expect_first.ensures (from_thread report))
     (fails_more (c.in_ok-progress.ensures (from_registers report))
     (c.in_err-registers.ensures.read (from_system report))))
@@ -36,7 +36,7 @@ pub returns-in_err-system-clause-fault : goal.returns-in_err-system-clause-fault
 unfolding checkpoint_table
 returns-in_err-system-clause-fault c =
     let report = report_said c.args.report.now in
-    file_fails _ _ _ _ _ c.of-place.ensures c.if-bytes-gt-FILE_LIMIT.false c.from_residual-in_err-system.ensures.1
+    file_fails _ _ _ _ _ c.of-place.ensures c.if-bytes.false c.from_residual-in_err-system.ensures.1
     (fails_more (c.in_ok-expect_first.ensures (from_thread report))
     (fails_more (c.in_ok-progress.ensures (from_registers report))
     (fails_more (c.in_ok-registers.ensures.read (from_system report))
@@ -46,7 +46,7 @@ pub returns-in_err-vectors-clause-fault : goal.returns-in_err-vectors-clause-fau
 unfolding checkpoint_table
 returns-in_err-vectors-clause-fault c =
     let report = report_said c.args.report.now in
-    file_fails _ _ _ _ _ c.of-place.ensures c.if-bytes-gt-FILE_LIMIT.false c.from_residual-in_err-vectors.ensures.1
+    file_fails _ _ _ _ _ c.of-place.ensures c.if-bytes.false c.from_residual-in_err-vectors.ensures.1
     (fails_more (c.in_ok-expect_first.ensures (from_thread report))
     (fails_more (c.in_ok-progress.ensures (from_registers report))
     (fails_more (c.in_ok-registers.ensures.read (from_system report))
@@ -57,7 +57,7 @@ pub returns-in_err-handlers-clause-fault : goal.returns-in_err-handlers-clause-f
 unfolding checkpoint_table
 returns-in_err-handlers-clause-fault c =
     let report = report_said c.args.report.now in
-    file_fault _ _ _ _ _ c.of-place.ensures c.if-bytes-gt-FILE_LIMIT.false c.from_residual-in_err-handlers.ensures.1
+    file_fault _ _ _ _ _ c.of-place.ensures c.if-bytes.false c.from_residual-in_err-handlers.ensures.1
     (fault_more _ (c.in_ok-expect_first.ensures (from_thread report))
     (fault_more _ (c.in_ok-progress.ensures (from_registers report))
     (fault_more _ (c.in_ok-registers.ensures.read (from_system report))
@@ -69,7 +69,7 @@ pub returns-in_err-output-clause-fault : goal.returns-in_err-output-clause-fault
 unfolding checkpoint_table
 returns-in_err-output-clause-fault c =
     let report = report_said c.args.report.now in
-    file_fails _ _ _ _ _ c.of-place.ensures c.if-bytes-gt-FILE_LIMIT.false c.from_residual-in_err-output.ensures.1
+    file_fails _ _ _ _ _ c.of-place.ensures c.if-bytes.false c.from_residual-in_err-output.ensures.1
     (fails_more (c.in_ok-expect_first.ensures (from_thread report))
     (fails_more (c.in_ok-progress.ensures (from_registers report))
     (fails_more (c.in_ok-registers.ensures.read (from_system report))
@@ -82,7 +82,7 @@ pub returns-in_err-pages-clause-fault : goal.returns-in_err-pages-clause-fault
 unfolding checkpoint_table
 returns-in_err-pages-clause-fault c =
     let report = report_said c.args.report.now in
-    file_fault _ _ _ _ _ c.of-place.ensures c.if-bytes-gt-FILE_LIMIT.false c.from_residual-in_err-pages.ensures.1
+    file_fault _ _ _ _ _ c.of-place.ensures c.if-bytes.false c.from_residual-in_err-pages.ensures.1
     (fault_more _ (c.in_ok-expect_first.ensures (from_thread report))
     (fault_more _ (c.in_ok-progress.ensures (from_registers report))
     (fault_more _ (c.in_ok-registers.ensures.read (from_system report))
@@ -96,7 +96,7 @@ pub returns-in_err-end-clause-fault : goal.returns-in_err-end-clause-fault
 unfolding checkpoint_table
 returns-in_err-end-clause-fault c =
     let report = report_said c.args.report.now in
-    file_fails _ _ _ _ _ c.of-place.ensures c.if-bytes-gt-FILE_LIMIT.false c.from_residual-in_err-end.ensures.1
+    file_fails _ _ _ _ _ c.of-place.ensures c.if-bytes.false c.from_residual-in_err-end.ensures.1
     (fails_more (c.in_ok-expect_first.ensures (from_thread report))
     (fails_more (c.in_ok-progress.ensures (from_registers report))
     (fails_more (c.in_ok-registers.ensures.read (from_system report))
@@ -149,5 +149,5 @@ returns-clause-good c =
     (reads_more (c.in_ok-handlers.ensures.read from_output)
     (reads_more (c.in_ok-output.ensures.read pages_of)
     (c.in_ok-pages.ensures.read)))))))) in
-    file_good report c.args.bytes.now _ c.if-bytes-gt-FILE_LIMIT.false (file_filled read)
+    file_good report c.args.bytes.now _ c.if-bytes.false (file_filled read)
     (file_whole c.args.bytes.now c.of-place.ensures read c.in_ok-end.ensures)
