@@ -3,6 +3,8 @@ use Rattle.std.proofs.Common.{inl, inr, ◌≡◌, ℕ, zero, suc, ◌+◌, ◌-
 use Rattle.std.proofs.Common.{ap, sym}
 use Rattle.std.proofs.Common.{◌∙◌, subst, arith, Bool, false}
 use Rattle.std.specs.Prelude.{is_some, min, IfOk, IfSome, IfNone, MatchOption, Result, Ok, Err}
+use Rattle.plain_lemmas.proofs.Options.{is_some-false}
+use Rattle.plain_lemmas.proofs.Numbers.{cases_lt_eq_gt}
 use Rattle.sm_types.specs.declared.config.Config.{Config}
 use Rattle.sm_types.specs.declared.shared_op.Event.{Event}
 use Rattle.shared_region.specs.Ports.{ReplayEvents}
@@ -18,7 +20,6 @@ use Rattle.kernel_contexts.specs.Advance.{AdvancesSeveral}
 use Rattle.kernel_contexts.specs.Context.{state_of, config_of, image_of, thread_of, journal_of, stop_of, is_home}
 use Rattle.kernel_contexts.specs.declared.context.Context.{Context}
 use Rattle.lone_runner.specs.Parting.{parting_at}
-use Rattle.lone_runner.proofs.Partings.{compared}
 use Rattle.lone_runner.proofs.Several.{way_goes_on, gone_at, not_passed, up_to_count}
 use Rattle.abi_checker.specs.Halting.{halts_for}
 use Rattle.abi_checker.specs.Checked.{states_of}
@@ -56,7 +57,7 @@ module _ (program : Program) (config : Config) (thread : ℕ) (journal : List Ev
 
   goes_each : (k : ℕ) (t : State) → GoesBy config thread (length (journal_of old)) k (state_of old) t → (m : ℕ) → m ≤ here + k → IsUp m
   goes_each zero t g m l = h.goes m (omega (arith, l))
-  goes_each (suc k) t g m l = elim (compared m (here + suc k)) as (λ _. IsUp m) [
+  goes_each (suc k) t g m l = elim (cases_lt_eq_gt m (here + suc k)) as (λ _. IsUp m) [
     | inl less ↦ goes_each k g.0 g.1 m (omega (arith, less))
     | inr (inl last) ↦ (
       t,
@@ -187,10 +188,6 @@ if_ok (Err e) P f = tt
 one_more : (n : ℕ) → (n ≡ 0 → ⊥) → (k : ℕ) × (n ≡ suc k)
 one_more zero some = absurd (some refl)
 one_more (suc k) some = (k, refl)
-
-none_of : (found : Option Abi) → is_some found ≡ false → found ≡ None
-none_of None e = refl
-none_of (Some abi) e = cc
 
 module _ (program : Program) (config : Config) (thread : ℕ) (journal : List Event) (count : ℕ) (old : Context) (ticket : ReplayEvents)
     (same : config_of old ≡ config) (is : thread_of old ≡ thread) (watch : Watch) (found : Option Abi)
@@ -337,7 +334,7 @@ pub found_none : (program : Program) (config : Config) (thread : ℕ) (journal :
     → IsFollowed program config thread journal count context ticket watch found
     → IsFollowed program config thread journal count context ticket watch None
 found_none program config thread journal count context ticket watch found quiet h =
-    subst (λ o. IsFollowed program config thread journal count context ticket watch o) (none_of found quiet) h
+    subst (λ o. IsFollowed program config thread journal count context ticket watch o) (is_some-false found quiet) h
 
 -- ---- of the same thread, by other names
 

@@ -1,6 +1,7 @@
 -- What is known of a marked call that returned in a run without a fault.
 use Rattle.std.proofs.Common.{◌≡◌, inl, inr, ℕ, ◌+◌, ◌<◌, List, [], length, Some, refl, ap, subst, sym, ◌∙◌, arith, true}
-use Rattle.std.specs.Prelude.{unwrap_or}
+use Rattle.std.proofs.lemmas.Option.{same_Some}
+use Rattle.plain_lemmas.proofs.Numbers.{cases_le}
 use Rattle.sm_types.specs.declared.config.Config.{Config}
 use Rattle.sm_types.specs.declared.shared_op.Event.{Event}
 use Rattle.paged_memory.specs.Image.{Program}
@@ -18,7 +19,6 @@ use Rattle.lone_runner.proofs.Rests.{join}
 use Rattle.abi_checker.specs.Faults.{block_of}
 use Rattle.abi_checker.specs.Checked.{states_of}
 use Rattle.abi_checker.specs.Brought.{IsReturned, IsReturnedAt}
-use Rattle.abi_checker.proofs.Deliveries.{later_or}
 
 -- the callee was lawful, and the states are whole; all that the laws of the tail ask of them
 pub record IsKnown (p : Places) (s r : State) (bytes : List ℕ) : Type 0 where
@@ -29,9 +29,6 @@ pub record IsKnown (p : Places) (s r : State) (bytes : List ℕ) : Type 0 where
   pub whole : IsWhole r.core
   pub same : length r.core.bank.za ≡ length s.core.bank.za
   pub pc : r.core.scalars.pc ≡ p.tail
-
-one_list : (xs ys : List ℕ) → Some xs ≡ Some ys → xs ≡ ys
-one_list xs ys e = ap (λ o. unwrap_or o xs) e
 
 module _ (program : Program) (config : Config) (thread : ℕ) (journal : List Event) (count : ℕ) (p : Places) (bytes : List ℕ) where
   known_at : (s r : State) (h : IsReturned program config thread journal count p s r bytes)
@@ -46,7 +43,7 @@ module _ (program : Program) (config : Config) (thread : ℕ) (journal : List Ev
       let last = h.yes.told.whole.returns h.call h.at p h.within return in
       record {
         lawful = lawful;
-        is = one_list lawful.dormant.bytes bytes
+        is = same_Some lawful.dormant.bytes bytes
             (sym lawful.dormant.ready.block.read
             ∙ subst (λ (t : State). bytes_with 4 t.core.memory (block_of t) 16 ≡ Some bytes) (sym h.before) h.block);
         old = first.memory;
@@ -67,7 +64,7 @@ module _ (program : Program) (config : Config) (thread : ℕ) (journal : List Ev
 
     -- what the turns lead to from there is of the run, and before its end
     before_end : (n : ℕ) (q : Place) → reach program config thread journal n ≡ At q.state q.used q.left → n < h.returned.yes.turns
-    before_end n q is = elim (later_or h.returned.yes.turns n) [
+    before_end n q is = elim (cases_le h.returned.yes.turns n) [
       | inl over ↦
           let yes = h.returned.yes in
           let end = stays_so program config thread journal 0 (Ended yes.state yes.stop yes.used []) refl yes.turns n over yes.ends in

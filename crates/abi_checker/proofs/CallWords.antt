@@ -1,11 +1,11 @@
 -- The words by which calls are told are those of BL and BLR, by the tables.
 use Rattle.std.proofs.Common.{inl, inr, ◌≡◌, ℕ, ◌*◌, ◌/◌, ◌%◌, ◌^◌, ◌<◌, Bool, true, false, cond, ◌==◌, ◌&&◌, ◌||◌, refl, ap, sym, ◌∙◌}
-use Rattle.std.proofs.Common.{◌⊎◌, List, [], ◌∷◌, Option, None, subst, eqb-true, eq-eqb, ℤ, arith, Some}
+use Rattle.std.proofs.Common.{List, [], ◌∷◌, Option, subst, eqb-true, eq-eqb, ℤ, arith, Some}
 use Rattle.std.specs.Prelude.{bit_and, unwrap_or}
 use Rattle.std.specs.List.{list_all}
-use Rattle.std.specs.Option.{option_or}
-use Rattle.std.proofs.lemmas.Bool.{and_parts, cases_Bool}
+use Rattle.std.proofs.lemmas.Bool.{and_parts, cases_Bool, false_from_ne_true, and_from, or_right, or_left}
 use Rattle.std.proofs.lemmas.Nat.{and_assoc, and_mask}
+use Rattle.plain_lemmas.proofs.Options.{either_some}
 use Rattle.sm_types.specs.declared.insn.Insn.{Insn}
 use Rattle.sm_types.specs.declared.insn.BranchRegisterOp.TheVariants.{Br, Blr, Ret}
 use Rattle.insn_forms.specs.declared.field.Field.{Field}
@@ -50,10 +50,6 @@ module _ {O I : Type 0} (t : Table O I) (word : ℕ) (P : I → Type 0) (safe : 
             (and_parts (bit_and word line.mask == line.value) (fits_in t line.operation word) held).0))
         | inr other ↦ all_mean lines parts.1 it (sym (ap choose other) ∙ h)
       ]
-
-by_either : (first second : Option Insn) (it : Insn) → option_or first second ≡ Some it → (first ≡ Some it) ⊎ (second ≡ Some it)
-by_either None second it e = inr e
-by_either (Some x) second it e = inl e
 
 -- ---- the operations
 
@@ -136,18 +132,6 @@ off_call mask value =
     differ 0xFC000000 0x94000000 mask value
     && (differ 0xFFFFFC00 0xD63F0000 mask value || differ 0x1F 0 mask value)
 
-or_left : (a b : Bool) → a ≡ true → (a || b) ≡ true
-or_left true b e = refl
-or_left false b e = cc
-
-or_right : (a b : Bool) → b ≡ true → (a || b) ≡ true
-or_right true b e = refl
-or_right false b e = e
-
-and_both : (a b : Bool) → a ≡ true → b ≡ true → (a && b) ≡ true
-and_both true b e f = f
-and_both false b e f = cc
-
 -- ---- the lines
 
 unfoldable scalar_line : Line Operation → Bool
@@ -173,10 +157,6 @@ choose false x y e h = cc
 pass : (b x y : Bool) → b ≡ false → cond b x y ≡ true → y ≡ true
 pass true x y e h = cc
 pass false x y e h = h
-
-never : (b : Bool) → (b ≡ true → ⊥) → b ≡ false
-never true f = absurd (f refl)
-never false f = refl
 
 -- ---- a word
 
@@ -209,7 +189,7 @@ module _ (word : ℕ) (small : word < 2 ^ 32) where
       let b : bit_and word 0x1F ≡ 0 = sym (and_assoc 0x1F word 0xFFFFFC1F) ∙ ap (λ n. bit_and n 0x1F) e in
       let high = high_blr in
       let top : word / 2 ^ 10 ≡ 0x358FC0 = omega (arith, high, a) in
-      or_right _ _ (and_both _ _ (eq-eqb (word / 2 ^ 10) 0x358FC0 top) (eq-eqb (word % 32) 0 (sym low_blr ∙ b)))
+      or_right _ _ (and_from _ _ (eq-eqb (word / 2 ^ 10) 0x358FC0 top) (eq-eqb (word % 32) 0 (sym low_blr ∙ b)))
 
   by_line : (mask value : ℕ) → (is_bl_line mask value || is_blr_line mask value) ≡ true → bit_and word mask ≡ value
       → is_call_word word ≡ true
@@ -253,7 +233,7 @@ module _ (word : ℕ) (small : word < 2 ^ 32) where
     | inl call ↦
         by_line line.mask line.value (choose _ _ _ call safe) is ∙ sym (call_named line.operation _ _ ∙ call)
     | inr none ↦
-        never (is_call_word word) (no_call line.mask line.value (pass _ _ _ none safe) is)
+        false_from_ne_true (is_call_word word) (no_call line.mask line.value (pass _ _ _ none safe) is)
         ∙ sym (call_named line.operation _ _ ∙ none)
   ]
 
@@ -261,11 +241,11 @@ module _ (word : ℕ) (small : word < 2 ^ 32) where
       → is_call_word word ≡ is_call_insn (insn_in vector line.operation word)
   unfolding vector vector_line
   vector_sound line safe is =
-      never (is_call_word word) (no_call line.mask line.value safe is) ∙ sym (no_vector_call line.operation _ _)
+      false_from_ne_true (is_call_word word) (no_call line.mask line.value safe is) ∙ sym (no_vector_call line.operation _ _)
 
   pub calls_are : (it : Insn) → instruction_of word ≡ Some it → is_call_word word ≡ is_call_insn it
   unfolding instruction_of meaning_of vector_meaning_of meaning_by scalar vector
-  calls_are it e = elim (by_either (meaning_of word) (vector_meaning_of word) it e) [
+  calls_are it e = elim (either_some (meaning_of word) (vector_meaning_of word) it e) [
     | inl h ↦
         all_mean scalar word (λ i. is_call_word word ≡ is_call_insn i) scalar_line scalar_sound SCALAR_LINES all_scalar it h
     | inr h ↦

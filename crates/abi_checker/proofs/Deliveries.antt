@@ -1,6 +1,7 @@
 -- The states of a run in which a delivery is due.
-use Rattle.std.proofs.Common.{◌≡◌, ◌⊎◌, inl, inr, ℕ, suc, ◌+◌, ◌-◌, ◌<◌, ◌≤◌, ◌==◌, true, cond, ap, sym, ◌∙◌, subst, arith}
+use Rattle.std.proofs.Common.{◌≡◌, inl, inr, ℕ, suc, ◌+◌, ◌-◌, ◌<◌, ◌==◌, true, cond, ap, sym, ◌∙◌, subst, arith}
 use Rattle.std.specs.FinMap.{get}
+use Rattle.plain_lemmas.proofs.Numbers.{cases_le}
 use Rattle.sm_types.specs.declared.config.Config.{Config}
 use Rattle.sm_types.specs.declared.stop.Stop.TheVariants.{Budget}
 use Rattle.kernel_contexts.specs.State.{State}
@@ -24,16 +25,13 @@ undue config thread events s t e one due =
     sym (ap (λ b. cond b (delivery_of config s) (instruction_of config thread events s)) due) ∙ rest in
     let same = delivered_counts config (lowest_signal s) s t (get s.handlers (lowest_signal s)) is in omega (arith, one, same)
 
-pub later_or : (n m : ℕ) → (n ≤ m) ⊎ (m < n)
-later_or n m = grind arith
-
 module _ (config : Config) (run : ℕ → State) where
   pub plain_first : ArePlainBefore run config 0
   plain_first m l due = absurd (omega (arith, l))
 
   -- and of the state before the next one
   pub plain_next : (n : ℕ) → ArePlainBefore run config n → IsPlain config (run n) → ArePlainBefore run config (suc n)
-  plain_next n before here m l due = elim (later_or n m) as (λ _. IsPlain config (run m)) [
+  plain_next n before here m l due = elim (cases_le n m) as (λ _. IsPlain config (run m)) [
     | inl later ↦ let same : n ≡ m = omega (arith, l, later) in subst (λ i. IsPlain config (run i)) same here
     | inr less ↦ before m less due
   ]
@@ -41,7 +39,7 @@ module _ (config : Config) (run : ℕ → State) where
   -- over turns of which each counts an instruction
   pub plain_over : (thread events here n : ℕ) → AreCounted config thread events run here n → ArePlainBefore run config here
       → ArePlainBefore run config (here + n)
-  plain_over thread events here n c before m l due = elim (later_or here m) as (λ _. IsPlain config (run m)) [
+  plain_over thread events here n c before m l due = elim (cases_le here m) as (λ _. IsPlain config (run m)) [
     | inl later ↦
         let j : ℕ = m - here in
         let there : m ≡ here + j = omega (arith, later) in

@@ -1,8 +1,8 @@
 -- A thread that is followed over its run, and what is told of it.
 use Rattle.std.proofs.Common.{inl, inr, ◌≡◌, ℕ, suc, ◌<◌, ◌≤◌, ◌^◌, List, [], ◌++◌, length, ap, sym, ◌∙◌}
-use Rattle.std.proofs.Common.{arith, subst, Bool, true, false, Option, Some, None}
+use Rattle.std.proofs.Common.{arith, subst, Option, Some, None}
 use Rattle.std.specs.Prelude.{nat_lt, cond, IfSome, IfNone}
-use Rattle.std.proofs.lemmas.Bool.{cases_Bool}
+use Rattle.std.proofs.lemmas.Bool.{cases_Bool, both_ways}
 use Rattle.std.proofs.lemmas.Bool.Decides.{nat_tests}
 use Rattle.sm_types.specs.declared.config.Config.{Config}
 use Rattle.sm_types.specs.declared.shared_op.Event.{Event}
@@ -58,15 +58,12 @@ watched_first run watch e z =
 
 -- ---- the call that stood at PC
 
-differ : (b : Bool) → b ≡ true → b ≡ false → ⊥
-differ b e f = let no : true ≡ false = sym e ∙ f in cc
-
 pub past_counted : (s t : State) (call : Option ℕ) → IfSome call (λ past. IsNextCall s past) → IfNone call (IsNoCall s)
     → t.count ≡ suc s.count → IsPast s t call
 past_counted s t (Some past) some none counted =
     (record { word = some.word; there = some.there; calls = some.calls; counted = counted }, some.place)
 past_counted s t None some none counted = λ p h.
-    let call = h.call in differ (is_call_word call.word) call.calls (none call.word call.there)
+    let call = h.call in both_ways (is_call_word call.word) (none call.word call.there) call.calls
 
 pub past_means : (s t : State) (call past : Option ℕ) → IfSome call (λ past. IsNextCall s past) → IfNone call (IsNoCall s)
     → IsCounted s t → past ≡ cond (nat_lt s.count t.count) call None → IsPast s t past

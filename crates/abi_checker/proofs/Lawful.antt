@@ -2,10 +2,12 @@
 use Rattle.std.proofs.Common.{◌⊎◌, inl, inr, ◌≡◌, ℕ, zero, suc, ◌+◌, ◌*◌, ◌/◌, ◌%◌, ◌^◌, ◌<◌, ◌≤◌, ◌==◌, Bool, true, false, cond, List}
 use Rattle.std.proofs.Common.{[], ◌∷◌, ◌++◌}
 use Rattle.std.proofs.Common.{length, Option, Some, None, refl, ap, sym, ◌∙◌, arith, subst}
-use Rattle.std.specs.Prelude.{is_some, IsSome, slice_index_or, unwrap_or}
+use Rattle.std.specs.Prelude.{is_some, IsSome, slice_index_or}
 use Rattle.std.specs.FinMap.{get}
-use Rattle.std.proofs.lemmas.List.{length-map, length_push}
+use Rattle.std.proofs.lemmas.List.{length-map, length_push, same_from_push}
 use Rattle.std.proofs.lemmas.Nat.{row_fits}
+use Rattle.std.proofs.lemmas.Option.{same_Some}
+use Rattle.plain_lemmas.proofs.Numbers.{cases_lt_suc}
 use Rattle.paged_memory.specs.Memory.{AddressSpace, IsWhole, byte_with, bytes_with, and_byte, permits, permitted, first_without, run_of}
 use Rattle.sve_vectors.specs.Layout.{items_of}
 use Rattle.za_array.specs.Array.{IsSquare}
@@ -26,24 +28,8 @@ use Rattle.abi_checker.proofs.Same.{no_gap}
 
 -- ---- the same bytes
 
-last_or_less : (i n : ℕ) → i < suc n → (i ≡ n) ⊎ (i < n)
-last_or_less i n l = grind arith
-
 not_empty : (bs : List ℕ) (b : ℕ) → ◌≡◌ {A = List ℕ} [] (bs ++ b ∷ []) → ⊥
 not_empty bs b e = let long = length_push bs b in let none = ap (λ (l : List ℕ). length l) e in omega (arith, long, none)
-
-last_same : (bs cs : List ℕ) (b c : ℕ) → bs ++ b ∷ [] ≡ cs ++ c ∷ [] → (bs ≡ cs) × (b ≡ c)
-last_same [] [] b c e = let same : b ≡ c = cc in (refl, same)
-last_same [] (y ∷ ys) b c e = let none : ◌≡◌ {A = List ℕ} [] (ys ++ c ∷ []) = cc in absurd (not_empty ys c none)
-last_same (x ∷ xs) [] b c e = let none : ◌≡◌ {A = List ℕ} [] (xs ++ b ∷ []) = cc in absurd (not_empty xs b none)
-last_same (x ∷ xs) (y ∷ ys) b c e =
-    let first : x ≡ y = cc in
-    let others : xs ++ b ∷ [] ≡ ys ++ c ∷ [] = cc in
-    let rest = last_same xs ys b c others in
-    (ap (λ z. z ∷ xs) first ∙ ap (λ l. y ∷ l) rest.0, rest.1)
-
-some_same : (xs ys : List ℕ) → Some xs ≡ Some ys → xs ≡ ys
-some_same xs ys e = ap (λ o. unwrap_or o xs) e
 
 -- the bytes before the last one, and it
 record AreBoth (bs : List ℕ) (x y : Option (List ℕ)) (p q : Option ℕ) : Type 0 where
@@ -60,7 +46,7 @@ split bs (Some xs) y None q h g = cc
 split bs (Some xs) None (Some b) q h g = cc
 split bs (Some xs) (Some ys) (Some b) None h g = cc
 split bs (Some xs) (Some ys) (Some b) (Some c) h g =
-    let same = last_same ys xs c b (some_same (ys ++ c ∷ []) (xs ++ b ∷ []) (g ∙ sym h)) in
+    let same = same_from_push ys xs c b (same_Some (ys ++ c ∷ []) (xs ++ b ∷ []) (g ∙ sym h)) in
     record { front = xs; last = b; x_is = refl; y_is = ap Some same.0; p_is = refl; q_is = ap Some same.1 }
 
 permitted_raw : (need : ℕ) (flags o : Option ℕ) (b : ℕ) → permitted need flags o ≡ Some b → o ≡ Some b
@@ -82,7 +68,7 @@ same_read m k a zero bs h g i l = absurd (omega (arith, l))
 same_read m k a (suc n) bs h g i l =
     let parts = split bs (bytes_with 4 m a n) (bytes_with 4 k a n) (byte_with 4 m ((a + n) % 2 ^ 64)) (byte_with 4 k ((a + n) % 2 ^ 64)) h g
     in
-    elim (last_or_less i n l) [
+    elim (cases_lt_suc i n l) [
       | inl e ↦
           let at = ap (λ j. (a + j) % 2 ^ 64) e in
           ap (λ q. get k.mem q) at ∙ byte_raw k ((a + n) % 2 ^ 64) parts.last parts.q_is
@@ -187,7 +173,7 @@ module _ (call : OpenCall) (s : State) (r : ProcessorState) (kept : IsKept call 
   -- any block with which it was dormant is that which was kept
   one_block : (d : IsDormantAt p s.core call.block) → d.bytes ≡ call.bytes.block
   one_block d =
-      some_same d.bytes kept.kept.dormant.bytes (sym d.ready.block.read ∙ kept.kept.dormant.ready.block.read) ∙ kept.kept.bytes
+      same_Some d.bytes kept.kept.dormant.bytes (sym d.ready.block.read ∙ kept.kept.dormant.ready.block.read) ∙ kept.kept.bytes
 
   module _ (d : IsDormantAt p s.core call.block) where
     read_block : bytes_with 4 s.core.memory call.block 16 ≡ Some call.bytes.block

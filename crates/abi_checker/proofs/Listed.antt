@@ -1,5 +1,5 @@
 -- A map as the list of its entries, and the byte of a page.
-use Rattle.std.proofs.Common.{◌≡◌, ◌≢◌, ℕ, zero, suc, ◌+◌, ◌/◌, ◌%◌, ◌<◌, ◌≤◌, List, [], ◌∷◌, ◌++◌, length, get_or, take, drop, refl}
+use Rattle.std.proofs.Common.{◌≡◌, ◌≢◌, ℕ, zero, suc, ◌+◌, ◌/◌, ◌%◌, ◌<◌, ◌≤◌, List, [], ◌∷◌, length, get_or, drop, refl}
 use Rattle.std.proofs.Common.{ap, sym}
 use Rattle.std.proofs.Common.{◌∙◌, arith, add-one, true, false, Option, Some, None, slice_get}
 use Rattle.std.specs.Prelude.{cond, ◌==◌, is_some, unwrap_or}
@@ -7,6 +7,7 @@ use Rattle.std.specs.FinMap.{FinMap, get, find}
 use Rattle.std.specs.Ordering.{nat_cmp, eq_by_cmp}
 use Rattle.std.specs.Int.Bits.{and_zero_r}
 use Rattle.std.proofs.lemmas.Bool.Decides.{nat_tests}
+use Rattle.std.proofs.lemmas.Option.{same_Some}
 use Rattle.paged_memory.specs.Memory.{AddressSpace, IsWhole, permitted, permits, byte_with, bytes_from}
 
 key_same : (q k : ℕ) → k ≡ q → eq_by_cmp nat_cmp q k ≡ true
@@ -15,16 +16,13 @@ key_same q k e = grind (arith, nat_tests)
 key_other : (q k : ℕ) → k ≢ q → eq_by_cmp nat_cmp q k ≡ false
 key_other q k e = grind (arith, nat_tests)
 
-some_same : (x e : ℕ × ℕ) → Some x ≡ Some e → x ≡ e
-some_same x e h = ap (λ o. unwrap_or o x) h
-
 -- the entry at a place, from which a search goes on
 pub find_step : (q : ℕ) (es : List (ℕ × ℕ)) (i : ℕ) (e : ℕ × ℕ) → slice_get es i ≡ Some e
     → find nat_cmp q (drop i es) ≡ cond (eq_by_cmp nat_cmp q e.0) (Some e.1) (find nat_cmp q (drop (suc i) es))
 find_step q [] zero e h = cc
 find_step q [] (suc i) e h = cc
 find_step q (x ∷ es) zero e h =
-    ap (λ y. cond (eq_by_cmp nat_cmp q y.0) (Some y.1) (find nat_cmp q es)) (some_same x e h)
+    ap (λ y. cond (eq_by_cmp nat_cmp q y.0) (Some y.1) (find nat_cmp q es)) (same_Some x e h)
 find_step q (x ∷ es) (suc i) e h = find_step q es i e h
 
 pub find_here : (q : ℕ) (es : List (ℕ × ℕ)) (i n flags : ℕ) → slice_get es i ≡ Some (n, flags) → n ≡ q
@@ -43,13 +41,6 @@ find_past q [] zero l = refl
 find_past q [] (suc i) l = refl
 find_past q (e ∷ es) zero l = absurd (omega arith)
 find_past q (e ∷ es) (suc i) l = find_past q es i (omega arith)
-
-pub take_entry : (es : List (ℕ × ℕ)) (i : ℕ) (e : ℕ × ℕ) → slice_get es i ≡ Some e
-    → take (suc i) es ≡ take i es ++ e ∷ []
-take_entry [] zero e h = cc
-take_entry [] (suc i) e h = cc
-take_entry (x ∷ es) zero e h = ap (λ y. y ∷ []) (some_same x e h)
-take_entry (x ∷ es) (suc i) e h = ap (λ l. x ∷ l) (take_entry es i e h)
 
 -- ---- the byte of a page
 

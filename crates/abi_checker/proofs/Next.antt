@@ -5,11 +5,11 @@ use Rattle.std.specs.Prelude.{not, ◌==◌, ◌&&◌}
 use Rattle.std.specs.List.{All, Contains}
 use Rattle.std.proofs.lemmas.List.Elements.{All-contains}
 use Rattle.std.proofs.lemmas.List.Filters.{length-filter_both}
-use Rattle.std.proofs.lemmas.Bool.Decides.{nat_tests}
+use Rattle.std.proofs.lemmas.Bool.{both_ways, not-false, not-true, eq-eqb, eqb-true}
+use Rattle.plain_lemmas.proofs.Numbers.{cases_lt_eq_gt}
 use Rattle.kernel_contexts.specs.State.{State}
 use Rattle.lazy_saving.specs.Dormant.{Places, IsDormantAt, IsLawful}
 use Rattle.za_routines.specs.Places.{places_of}
-use Rattle.lone_runner.proofs.Partings.{compared}
 use Rattle.abi_checker.specs.Marks.{IsBackFrom}
 use Rattle.abi_checker.specs.Faults.{IsMarkedAt, IsReturn, IsOpen, HasFault, IsFirstFault, ReturnsUnlawfully}
 use Rattle.abi_checker.specs.Faults.{AreLawful, block_of, order_of}
@@ -36,39 +36,22 @@ all_three true true false e f g = cc
 all_three true false c e f g = cc
 all_three false b c e f g = cc
 
-pub equal : (a b : ℕ) → (a == b) ≡ true → a ≡ b
-equal a b e = grind (arith, nat_tests)
-
-equal_back : (a b : ℕ) → a ≡ b → (a == b) ≡ true
-equal_back a b e = grind (arith, nat_tests)
-
 pub back_means : (s r : State) (call : OpenCall) → IsKept call s → is_back r call ≡ true
     → IsBackFrom (places_of call.places) s r
 back_means s r call h e =
     let t = both (r.core.scalars.pc == call.places.tail) (r.core.scalars.sp == call.sp) (r.depth == call.depth) e in
     record {
-      pc = equal r.core.scalars.pc call.places.tail t.0;
-      sp = equal r.core.scalars.sp call.sp t.1 ∙ h.sp;
-      depth = equal r.depth call.depth t.2 ∙ h.depth;
+      pc = eqb-true r.core.scalars.pc call.places.tail t.0;
+      sp = eqb-true r.core.scalars.sp call.sp t.1 ∙ h.sp;
+      depth = eqb-true r.depth call.depth t.2 ∙ h.depth;
     }
 
 pub back_tells : (s r : State) (call : OpenCall) → IsKept call s → IsBackFrom (places_of call.places) s r
     → is_back r call ≡ true
 back_tells s r call h b =
     all_three (r.core.scalars.pc == call.places.tail) (r.core.scalars.sp == call.sp) (r.depth == call.depth)
-    (equal_back r.core.scalars.pc call.places.tail b.pc) (equal_back r.core.scalars.sp call.sp (b.sp ∙ sym h.sp))
-    (equal_back r.depth call.depth (b.depth ∙ sym h.depth))
-
-not_true : (b : Bool) → not b ≡ true → b ≡ false
-not_true true e = cc
-not_true false e = refl
-
-not_false : (b : Bool) → not b ≡ false → b ≡ true
-not_false true e = refl
-not_false false e = cc
-
-differ : (b : Bool) → b ≡ true → b ≡ false → ⊥
-differ b e f = let no : true ≡ false = sym e ∙ f in cc
+    (eq-eqb r.core.scalars.pc call.places.tail b.pc) (eq-eqb r.core.scalars.sp call.sp (b.sp ∙ sym h.sp))
+    (eq-eqb r.depth call.depth (b.depth ∙ sym h.depth))
 
 -- ---- the next state
 
@@ -122,7 +105,7 @@ module _ (run : ℕ → State) (n : ℕ) (calls : List OpenCall) (returned : ℕ
 
     pub lawful_on : AreLawful run n → AreLawful run (suc n)
     lawful_on lawful c m p within r =
-        elim (compared m (suc n)) as (λ _. IsLawful p (run c).core (run m).core (block_of (run c))) [
+        elim (cases_lt_eq_gt m (suc n)) as (λ _. IsLawful p (run c).core (run m).core (block_of (run c))) [
           | inl less ↦ lawful c m p (omega (arith, less)) r
           | inr (inl same) ↦
               subst (λ i. IsLawful p (run c).core (run i).core (block_of (run c))) (sym same)
@@ -136,11 +119,11 @@ module _ (run : ℕ → State) (n : ℕ) (calls : List OpenCall) (returned : ℕ
     stays : (k : ℕ) (call : OpenCall) → IsHeld run n k call → not (is_back next call) ≡ true
         → ¬ IsBackFrom (places_of call.places) (run k) next
     stays k call h e back =
-        differ (is_back next call) (back_tells (run k) next call h.kept back) (not_true (is_back next call) e)
+        both_ways (is_back next call) (not-true (is_back next call) e) (back_tells (run k) next call h.kept back)
 
     backs : (k : ℕ) (call : OpenCall) → IsHeld run n k call → not (is_back next call) ≡ false
         → IsBackFrom (places_of call.places) (run k) next
-    backs k call h e = back_means (run k) next call h.kept (not_false (is_back next call) e)
+    backs k call h e = back_means (run k) next call h.kept (not-false (is_back next call) e)
 
     module _ (left : List OpenCall) (now : ℕ) (is : left ≡ filter (λ call. not (is_back next call)) calls)
         (all : now + length left ≡ returned + length calls) where
@@ -164,7 +147,7 @@ module _ (run : ℕ → State) (n : ℕ) (calls : List OpenCall) (returned : ℕ
         no_fault TooDeep f = unmarked f.places f.marked
 
         pub none_unmarked : (m : ℕ) (kind : AbiKind) → m ≤ suc n → ¬ HasFault run m kind
-        none_unmarked m kind within = elim (compared m (suc n)) as (λ _. ¬ HasFault run m kind) [
+        none_unmarked m kind within = elim (cases_lt_eq_gt m (suc n)) as (λ _. ¬ HasFault run m kind) [
           | inl less ↦ earlier m kind less
           | inr (inl same) ↦ subst (λ i. ¬ HasFault run i kind) (sym same) (no_fault kind)
           | inr (inr more) ↦ absurd (omega (arith, within, more))
@@ -192,7 +175,7 @@ module _ (run : ℕ → State) (n : ℕ) (calls : List OpenCall) (returned : ℕ
             omega (arith, many, most, few)
 
         pub none_added : (m : ℕ) (kind : AbiKind) → m ≤ suc n → ¬ HasFault run m kind
-        none_added m kind within = elim (compared m (suc n)) as (λ _. ¬ HasFault run m kind) [
+        none_added m kind within = elim (cases_lt_eq_gt m (suc n)) as (λ _. ¬ HasFault run m kind) [
           | inl less ↦ earlier m kind less
           | inr (inl same) ↦ subst (λ i. ¬ HasFault run i kind) (sym same) (clean kind)
           | inr (inr more) ↦ absurd (omega (arith, within, more))

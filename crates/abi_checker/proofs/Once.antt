@@ -1,5 +1,6 @@
 -- At most one thing is told of a run.
 use Rattle.std.proofs.Common.{inl, inr, ◌≡◌, ℕ, zero, suc, ◌<◌, List, [], refl, ap, sym, ◌∙◌, arith, subst}
+use Rattle.plain_lemmas.proofs.Numbers.{cases_lt_eq_gt}
 use Rattle.sm_types.specs.declared.config.Config.{Config}
 use Rattle.sm_types.specs.declared.shared_op.Event.{Event}
 use Rattle.sm_types.specs.declared.stop.Stop.{Stop}
@@ -7,7 +8,6 @@ use Rattle.paged_memory.specs.Image.{Program}
 use Rattle.kernel_contexts.specs.State.{State}
 use Rattle.kernel_contexts.specs.Run.{Reached, At, Ended}
 use Rattle.lone_runner.specs.Parting.{EndsAt}
-use Rattle.lone_runner.proofs.Partings.{compared}
 use Rattle.abi_checker.specs.Numbers.{NumberOf}
 use Rattle.abi_checker.specs.Faults.{HasReturned, IsOpen, IsFirstFault, order_of}
 use Rattle.abi_checker.specs.Checked.{IsChecked, IsTold, states_of}
@@ -37,14 +37,14 @@ module _ (run : ℕ → State) where
   one_kind TooDeep TooDeep e = refl
 
   one_place : (m n : ℕ) (a b : AbiKind) → IsFirstFault run m a → IsFirstFault run n b → m ≡ n
-  one_place m n a b h k = elim (compared m n) [
+  one_place m n a b h k = elim (cases_lt_eq_gt m n) [
     | inl less ↦ absurd (k.earlier m a less h.fault)
     | inr (inl same) ↦ same
     | inr (inr more) ↦ absurd (h.earlier n b more k.fault)
   ]
 
   one_first : (n : ℕ) (a b : AbiKind) → IsFirstFault run n a → IsFirstFault run n b → a ≡ b
-  one_first n a b h k = elim (compared (order_of run a) (order_of run b)) [
+  one_first n a b h k = elim (cases_lt_eq_gt (order_of run a) (order_of run b)) [
     | inl less ↦ absurd (k.sooner a less h.fault)
     | inr (inl same) ↦ one_kind a b same
     | inr (inr more) ↦ absurd (h.sooner b more k.fault)
@@ -77,7 +77,7 @@ module _ (program : Program) (config : Config) (thread : ℕ) (journal : List Ev
 
   pub one_checked : (a b : Abi) → IsChecked program config thread journal count a
       → IsChecked program config thread journal count b → a ≡ b
-  one_checked a b h k = elim (compared h.turns k.turns) [
+  one_checked a b h k = elim (cases_lt_eq_gt h.turns k.turns) [
     | inl less ↦ absurd (later a b h k less)
     | inr (inl same) ↦
         one_told (states_of program config thread journal) k.turns a b

@@ -1,5 +1,6 @@
 -- The words behind a call are those of one mark at most.
 use Rattle.std.proofs.Common.{◌≡◌, ℕ, ℤ, refl, ap, sym, ◌∙◌, Option, Some, true}
+use Rattle.std.proofs.lemmas.Option.{same_Some}
 use Rattle.std.specs.Prelude.{◌+◌, ◌-◌, ◌%◌, ◌^◌}
 use Rattle.sm_types.specs.declared.insn.Insn.{Insn}
 use Rattle.sm_types.specs.declared.insn.Insn.TheVariants as insn
@@ -12,9 +13,6 @@ use Rattle.lazy_saving.specs.Code.{place_of}
 use Rattle.lazy_saving.specs.Dormant.{Places}
 use Rattle.abi_checker.specs.Marks.{HasMark, IsMarkedCall, word_in}
 
-one_word : (v w : ℕ) → ◌≡◌ {A = Option ℕ} (Some v) (Some w) → v ≡ w
-one_word v w e = cc
-
 one_distance : (d e : ℤ)
     → ◌≡◌ {A = Option Insn} (Some (insn.Branch (branch.Unconditional true d))) (Some (insn.Branch (branch.Unconditional true e)))
     → d ≡ e
@@ -23,7 +21,7 @@ one_distance d e h = cc
 module _ (m : AddressSpace) (p q : Places) (same : p.tail ≡ q.tail) (h : HasMark m p) (k : HasMark m q) where
   same_call : h.call ≡ k.call
   same_call =
-      one_word h.call k.call
+      same_Some h.call k.call
       (sym (h.tail 4 h.call refl) ∙ ap (λ a. word_in m (place_of a 4)) same ∙ k.tail 4 k.call refl)
 
   same_distance : h.distance ≡ k.distance

@@ -1,6 +1,8 @@
 -- Turns of which none is halted before: at none of them is anything told, but in the state after the last.
-use Rattle.std.proofs.Common.{inl, inr, ◌≡◌, ℕ, zero, suc, ◌+◌, ◌-◌, ◌<◌, ◌≤◌, Bool, true, false, ◌||◌, List, Option, Some, None}
+use Rattle.std.proofs.Common.{inl, inr, ◌≡◌, ℕ, zero, suc, ◌+◌, ◌-◌, ◌<◌, ◌≤◌, Bool, false, List, Option, Some, None}
 use Rattle.std.proofs.Common.{refl, ap, sym, ◌∙◌, subst, arith}
+use Rattle.std.proofs.lemmas.Bool.{or_parts, both_ways}
+use Rattle.plain_lemmas.proofs.Numbers.{cases_lt_eq_gt}
 use Rattle.sm_types.specs.declared.config.Config.{Config}
 use Rattle.sm_types.specs.declared.shared_op.Event.{Event}
 use Rattle.paged_memory.specs.Image.{Program}
@@ -13,7 +15,7 @@ use Rattle.kernel_contexts.specs.Several.{GoesApart, GoesBy, halts_before, never
 use Rattle.kernel_contexts.specs.Run.{Reached, At, reach}
 use Rattle.lazy_saving.specs.Dormant.{Places}
 use Rattle.lone_runner.specs.Parting.{state_at}
-use Rattle.lone_runner.proofs.Partings.{compared, reach_counts}
+use Rattle.lone_runner.proofs.Partings.{reach_counts}
 use Rattle.lone_runner.proofs.Several.{gone_at}
 use Rattle.abi_checker.specs.Marks.{IsMarkedCall, is_call_word}
 use Rattle.abi_checker.specs.Near.{is_near}
@@ -58,7 +60,7 @@ module _ (program : Program) (config : Config) (thread : ℕ) (journal : List Ev
       → turn_of config thread used (run (here + j)) ≡ Goes (run (here + suc j))
   goes_on zero t g j l = absurd (omega (arith, l))
   goes_on (suc n) t g j l =
-      elim (compared j n) as (λ _. turn_of config thread used (run (here + j)) ≡ Goes (run (here + suc j))) [
+      elim (cases_lt_eq_gt j n) as (λ _. turn_of config thread used (run (here + j)) ≡ Goes (run (here + suc j))) [
         | inl less ↦ goes_on n g.0 g.1 j less
         | inr (inl same) ↦
             let before = ap state_at (gone_at program config thread journal 0 here n used left s g.0 at g.1) in
@@ -108,7 +110,7 @@ module _ (program : Program) (config : Config) (thread : ℕ) (journal : List Ev
   pub free_each : (halts : ℕ → ℕ → Bool) (n : ℕ) (t : State) → GoesApart halts false config thread used n s t → (j : ℕ) → j < n
       → halts_before halts (run (here + j)) ≡ false
   free_each halts zero t g j l = absurd (omega (arith, l))
-  free_each halts (suc n) t g j l = elim (compared j n) as (λ _. halts_before halts (run (here + j)) ≡ false) [
+  free_each halts (suc n) t g j l = elim (cases_lt_eq_gt j n) as (λ _. halts_before halts (run (here + j)) ≡ false) [
     | inl less ↦ free_each halts n g.0 g.1 j less
     | inr (inl same) ↦
         let before = run_after n g.0 (goes_by halts config thread used n s g.0 g.1) in
@@ -117,13 +119,6 @@ module _ (program : Program) (config : Config) (thread : ℕ) (journal : List Ev
   ]
 
 -- ---- their states
-
-both : (b : Bool) → b ≡ true → b ≡ false → ⊥
-both b e f = let no : true ≡ false = sym e ∙ f in cc
-
-or_parts : (a b : Bool) → (a || b) ≡ false → (a ≡ false) × (b ≡ false)
-or_parts true b e = cc
-or_parts false b e = (refl, e)
 
 module _ (config : Config) (thread events : ℕ) (run : ℕ → State) (here n : ℕ) (c : AreCounted config thread events run here n)
     (watch : Watch) (free : (j : ℕ) → j < n → halts_before (halts_for watch.near) (run (here + j)) ≡ false) where
@@ -139,7 +134,7 @@ module _ (config : Config) (thread events : ℕ) (run : ℕ → State) (here n :
   -- none of the turns is a marked call
   pub no_mark : (j : ℕ) → j < n → (p : Places) → ¬ IsMarkedCall p (run (here + j)) (run (here + suc j))
   no_mark j l p marked =
-      let call = marked.call in both (is_call_word call.word) call.calls (free_word j l call.word call.there).0
+      let call = marked.call in both_ways (is_call_word call.word) (free_word j l call.word call.there).0 call.calls
 
   away : (j : ℕ) → j < n → is_near watch.near (run (here + j)).core.scalars.pc ≡ false
   away j l =

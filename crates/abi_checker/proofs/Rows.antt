@@ -2,9 +2,9 @@
 use Rattle.std.proofs.Common.{◌≡◌, ℕ, ◌+◌, ◌*◌, ◌%◌, ◌^◌, ◌<◌, ◌≤◌, List, [], length, Some, ap, sym, ◌∙◌, arith, subst}
 use Rattle.std.specs.Prelude.{slice_index_or}
 use Rattle.std.proofs.Common.{Vec, Global, inl, inr}
-use Rattle.lone_runner.proofs.Partings.{compared}
 use Rattle.std.proofs.lemmas.List.{length-map}
 use Rattle.std.proofs.lemmas.Nat.{row_fits, mul-le}
+use Rattle.plain_lemmas.proofs.Numbers.{cases_lt_eq_gt}
 use Rattle.paged_memory.specs.Memory.{AddressSpace, bytes_with}
 use Rattle.sve_vectors.specs.Layout.{items_of}
 use Rattle.kernel_contexts.specs.State.{State}
@@ -71,7 +71,7 @@ module _ (call : OpenCall) (m : AddressSpace) where
 
   pub saved_more : (n : ℕ) → ((i : ℕ) → i < n → i < saved_of call.bytes.block → IsIn i) → (n < saved_of call.bytes.block → IsIn n)
       → (i : ℕ) → i < n + 1 → i < saved_of call.bytes.block → IsIn i
-  saved_more n before last i l few = elim (compared i n) as (λ _. IsIn i) [
+  saved_more n before last i l few = elim (cases_lt_eq_gt i n) as (λ _. IsIn i) [
     | inl less ↦ before i less few
     | inr (inl same) ↦ subst IsIn (sym same) (last (subst (λ k. k < saved_of call.bytes.block) same few))
     | inr (inr more) ↦ absurd (omega (arith, l, more))
@@ -79,7 +79,7 @@ module _ (call : OpenCall) (m : AddressSpace) where
 
 -- one that begins before the end is saved, and one that does not is not
 pub is_saved_slice : (i size saved end : ℕ) → end ≡ saved * size → i * size < end → i < saved
-is_saved_slice i size saved end e l = elim (compared i saved) [
+is_saved_slice i size saved end e l = elim (cases_lt_eq_gt i saved) [
   | inl less ↦ less
   | inr (inl same) ↦ let no = begins_after i size saved (omega (arith, same)) in absurd (omega (arith, no, e, l))
   | inr (inr more) ↦ let no = begins_after i size saved (omega (arith, more)) in absurd (omega (arith, no, e, l))

@@ -1,19 +1,19 @@
 -- Calls of which none is back, and what is told of them.
-use Rattle.std.proofs.Common.{◌≡◌, ℕ, zero, suc, ◌+◌, ◌<◌, subst, List, [], ◌∷◌, length, get_or, filter, cond, refl, ap, sym, ◌∙◌}
+use Rattle.std.proofs.Common.{◌≡◌, ℕ, suc, ◌+◌, ◌<◌, subst, List, [], ◌∷◌, length, get_or, filter, cond, refl, ap, sym, ◌∙◌}
 use Rattle.std.proofs.Common.{arith, Bool, true, false}
 use Rattle.std.specs.Prelude.{not, ◌==◌, ◌++◌, slice_index_or, slice_set}
-use Rattle.std.proofs.lemmas.List.{get_or-set_same, get_or-set_other}
+use Rattle.std.proofs.lemmas.List.{get_or-set_same, get_or-set_other, get_or_default}
 use Rattle.std.proofs.lemmas.List.Elements.{All-push}
-use Rattle.std.proofs.lemmas.Bool.{cases_Bool}
+use Rattle.std.proofs.lemmas.Bool.{cases_Bool, eqb-true, not_from_false, both_ways}
 use Rattle.std.proofs.Common.{inl, inr}
+use Rattle.plain_lemmas.proofs.Numbers.{cases_lt_eq_gt}
 use Rattle.kernel_contexts.specs.State.{State}
-use Rattle.lone_runner.proofs.Partings.{compared}
 use Rattle.abi_checker.specs.Returning.{is_back, IsFine}
 use Rattle.abi_checker.specs.Watching.{AreNear, Settles}
 use Rattle.abi_checker.specs.Near.{is_near, slot_of}
 use Rattle.abi_checker.specs.declared.open_call.OpenCall.{OpenCall}
 use Rattle.abi_checker.specs.declared.watch.Watch.{Watch}
-use Rattle.abi_checker.proofs.Next.{both, equal}
+use Rattle.abi_checker.proofs.Next.{both}
 
 all_kept : (keeps : OpenCall → Bool) (calls : List OpenCall) → ((k : ℕ) (d : OpenCall) → k < length calls → keeps (get_or calls k d) ≡ true)
     → calls ≡ filter keeps calls
@@ -22,49 +22,37 @@ all_kept keeps (call ∷ calls) h =
     let rest = all_kept keeps calls (λ k d l. h (suc k) d (omega (arith, l))) in
     ap (λ l. call ∷ l) rest ∙ sym (ap (λ b. cond b (call ∷ filter keeps calls) (filter keeps calls)) (h 0 call (omega arith)))
 
-differ : (b : Bool) → b ≡ true → b ≡ false → ⊥
-differ b e f = let no : true ≡ false = sym e ∙ f in cc
-
 -- a state whose PC is near no call is back from none
 pub away : (r : State) (near : List Bool) (call : OpenCall) → is_near near call.places.tail ≡ true
     → is_near near r.core.scalars.pc ≡ false → is_back r call ≡ false
 away r near call there here = elim (cases_Bool (is_back r call)) [
   | inl back ↦
-      let pc = equal r.core.scalars.pc call.places.tail
+      let pc = eqb-true r.core.scalars.pc call.places.tail
       (both (r.core.scalars.pc == call.places.tail) (r.core.scalars.sp == call.sp) (r.depth == call.depth) back).0 in
-      absurd (differ (is_near near r.core.scalars.pc) (ap (λ a. is_near near a) pc ∙ there) here)
+      absurd (both_ways (is_near near r.core.scalars.pc) here (ap (λ a. is_near near a) pc ∙ there))
   | inr other ↦ other
 ]
-
-kept : (b : Bool) → b ≡ false → not b ≡ true
-kept true e = cc
-kept false e = refl
 
 pub none_settles : (r : State) (old : Watch) → AreNear old.near old.calls.items → is_near old.near r.core.scalars.pc ≡ false
     → Settles r old old
 none_settles r old near here = record {
   fine = λ k d l back.
-      absurd (differ (is_back r (get_or old.calls.items k d)) back (away r old.near (get_or old.calls.items k d) (near k d l) here));
+      absurd (both_ways (is_back r (get_or old.calls.items k d)) (away r old.near (get_or old.calls.items k d) (near k d l) here) back);
   left = all_kept (λ call. not (is_back r call)) old.calls.items
-      (λ k d l. kept (is_back r (get_or old.calls.items k d)) (away r old.near (get_or old.calls.items k d) (near k d l) here));
+      (λ k d l. not_from_false (is_back r (get_or old.calls.items k d)) (away r old.near (get_or old.calls.items k d) (near k d l) here));
   all = refl;
   near = near;
 }
 
 -- ---- the calls up to one place more
 
-pub same_at : {X : Type 0} (xs : List X) (i : ℕ) (d e : X) → i < length xs → get_or xs i d ≡ get_or xs i e
-same_at [] i d e l = absurd (omega (arith, l))
-same_at (x ∷ xs) zero d e l = refl
-same_at (x ∷ xs) (suc i) d e l = same_at xs i d e (omega (arith, l))
-
 pub fine_more : (r : State) (calls : List OpenCall) (n : ℕ) (call : OpenCall)
     → ((k : ℕ) (d : OpenCall) → k < n → IsFine r (get_or calls k d)) → call ≡ get_or calls n call → n < length calls → IsFine r call
     → (k : ℕ) (d : OpenCall) → k < n + 1 → IsFine r (get_or calls k d)
-fine_more r calls n call before is below fine k d l = elim (compared k n) as (λ _. IsFine r (get_or calls k d)) [
+fine_more r calls n call before is below fine k d l = elim (cases_lt_eq_gt k n) as (λ _. IsFine r (get_or calls k d)) [
   | inl less ↦ before k d less
   | inr (inl same) ↦
-      subst (IsFine r) (is ∙ same_at calls n call d below ∙ sym (ap (λ i. get_or calls i d) same)) fine
+      subst (IsFine r) (is ∙ get_or_default calls n call d below ∙ sym (ap (λ i. get_or calls i d) same)) fine
   | inr (inr more) ↦ absurd (omega (arith, l, more))
 ]
 
@@ -72,7 +60,7 @@ fine_more r calls n call before is below fine k d l = elim (compared k n) as (λ
 
 slot_set : (near : List Bool) (slot q : ℕ) → slot < length near → slice_index_or near q false ≡ true
     → slice_index_or (slice_set near slot true) q false ≡ true
-slot_set near slot q l h = elim (compared q slot) [
+slot_set near slot q l h = elim (cases_lt_eq_gt q slot) [
   | inl less ↦ get_or-set_other near slot q true false (λ e. absurd (omega (arith, less, e))) ∙ h
   | inr (inl same) ↦ ap (λ i. slice_index_or (slice_set near slot true) i false) same ∙ get_or-set_same near slot true false l
   | inr (inr more) ↦ get_or-set_other near slot q true false (λ e. absurd (omega (arith, more, e))) ∙ h

@@ -1,13 +1,13 @@
 -- The marked calls of a run, from one state to the next.
-use Rattle.std.proofs.Common.{◌⊎◌, inl, inr, ◌≡◌, ℕ, zero, suc, ◌+◌, ◌<◌, ◌≤◌, List, [], ◌∷◌, ◌++◌, length, filter, refl, ap, sym, ◌∙◌}
+use Rattle.std.proofs.Common.{inl, inr, ◌≡◌, ℕ, zero, suc, ◌+◌, ◌<◌, ◌≤◌, List, [], ◌∷◌, ◌++◌, length, filter, refl, ap, sym, ◌∙◌}
 use Rattle.std.proofs.Common.{arith, subst, Bool, true, false, cond, ◌-◌}
 use Rattle.std.specs.Prelude.{not}
 use Rattle.std.specs.List.{Contains}
 use Rattle.std.proofs.lemmas.List.Filters.{length-filter_both}
-use Rattle.lone_runner.proofs.Partings.{compared}
 use Rattle.std.proofs.lemmas.Bool.{cases_Bool}
 use Rattle.std.proofs.lemmas.List.{append-nil, length_push}
 use Rattle.std.proofs.lemmas.List.Elements.{Contains-push, Contains-push_cases, Contains-append_left, filter-append}
+use Rattle.plain_lemmas.proofs.Numbers.{cases_lt_suc}
 use Rattle.kernel_contexts.specs.State.{State}
 use Rattle.lazy_saving.specs.Dormant.{Places}
 use Rattle.za_routines.specs.Places.{places_of}
@@ -21,13 +21,6 @@ use Rattle.abi_checker.proofs.OneMark.{one_mark}
 -- the empty list has no element
 not_in : (call : OpenCall) → Contains [] call → ⊥
 not_in call is = let less : is.0 < 0 = is.1 in omega (arith, less)
-
-last_or_less : (c k : ℕ) → c < suc k → (c ≡ k) ⊎ (c < k)
-last_or_less c k less = elim (compared c k) [
-  | inl below ↦ inr below
-  | inr (inl same) ↦ inl same
-  | inr (inr more) ↦ absurd (omega (arith, less, more))
-]
 
 module _ (run : ℕ → State) where
   -- there is one place of a marked call
@@ -98,7 +91,7 @@ module _ (run : ℕ → State) where
   pub in_list : (n k : ℕ) (calls : List OpenCall) (returned c : ℕ) → IsWalked run n k calls returned → c < k → IsOpen run n c
       → (call : OpenCall) × Contains calls call × IsHeld run n c call
   in_list n zero calls returned c h less is = absurd (omega (arith, less))
-  in_list n (suc k) calls returned c (inl h) less is = elim (last_or_less c k less) [
+  in_list n (suc k) calls returned c (inl h) less is = elim (cases_lt_suc c k less) [
     | inl last ↦ (
       h.1,
       subst (λ (l : List OpenCall). Contains l h.1) (sym h.2) (Contains-push h.0 h.1),
@@ -111,11 +104,11 @@ module _ (run : ℕ → State) where
           r.2,
         )
   ]
-  in_list n (suc k) calls returned c (inr (inl h)) less is = elim (last_or_less c k less) [
+  in_list n (suc k) calls returned c (inr (inl h)) less is = elim (cases_lt_suc c k less) [
     | inl last ↦ absurd (back_closed n k h.2 (subst (λ i. IsOpen run n i) last is))
     | inr before ↦ in_list n k calls h.0 c h.3 before is
   ]
-  in_list n (suc k) calls returned c (inr (inr h)) less is = elim (last_or_less c k less) [
+  in_list n (suc k) calls returned c (inr (inr h)) less is = elim (cases_lt_suc c k less) [
     | inl last ↦ absurd (h.0 is.places (subst (λ i. IsMarkedAt run is.places i) last is.marked))
     | inr before ↦ in_list n k calls returned c h.1 before is
   ]
@@ -132,7 +125,7 @@ module _ (run : ℕ → State) where
       kept = h.kept;
       marked = h.marked;
       never = λ m after by.
-          elim (last_or_less m (suc n) (omega (arith, by))) as (λ _. ¬ IsBackFrom (places_of call.places) (run k) (run m)) [
+          elim (cases_lt_suc m (suc n) (omega (arith, by))) as (λ _. ¬ IsBackFrom (places_of call.places) (run k) (run m)) [
             | inl last ↦
                 subst (λ i. ¬ IsBackFrom (places_of call.places) (run k) (run i)) (sym last) (stays k call h e)
             | inr less ↦ h.never m after (omega (arith, less))

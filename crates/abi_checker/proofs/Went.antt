@@ -1,12 +1,13 @@
 -- What the code's parts of a state come to.
 use Rattle.std.proofs.Common.{inl, inr, ◌≡◌, ℕ, suc, ◌+◌, ◌<◌, ◌≤◌, ◌++◌, List, [], ◌∷◌, length, filter, refl, ap, sym, ◌∙◌, arith, subst}
-use Rattle.std.proofs.Common.{Option, Some, None, Bool, true, false}
+use Rattle.std.proofs.Common.{Option, Some, None, true, false}
 use Rattle.std.proofs.Common.{get_or, Vec, Global}
 use Rattle.std.specs.Prelude.{not, Result, Ok, Err, IfOk}
 use Rattle.std.specs.List.{All, Contains}
-use Rattle.std.proofs.lemmas.List.{length_push}
+use Rattle.std.proofs.lemmas.List.{length_push, get_or_default}
 use Rattle.std.proofs.lemmas.List.Elements.{All-contains}
 use Rattle.std.proofs.lemmas.List.Filters.{length-filter_both}
+use Rattle.std.proofs.lemmas.Bool.{both_ways}
 use Rattle.kernel_contexts.specs.State.{State}
 use Rattle.lazy_saving.specs.Dormant.{Places, IsDormantAt}
 use Rattle.za_routines.specs.Places.{places_of}
@@ -23,7 +24,6 @@ use Rattle.abi_checker.specs.declared.open_call.OpenCall.{OpenCall}
 use Rattle.abi_checker.specs.declared.watch.Watch.{Watch}
 use Rattle.abi_checker.proofs.Next.{unlawful_first, lawful_on, no_more, none_unmarked, walked_unmarked, none_added, walked_added}
 use Rattle.abi_checker.proofs.Next.{undormant_first, deep_first}
-use Rattle.abi_checker.proofs.Settled.{same_at}
 use Rattle.abi_checker.proofs.Walk.{of_list, in_list, one_place}
 use Rattle.abi_checker.proofs.WholeStates.{whole_on}
 
@@ -128,7 +128,7 @@ module _ (run : ℕ → State) (n : ℕ) (old : Watch) (s : State) (w : IsWatche
 pub all_of_some : (run : ℕ → State) (n : ℕ) (watch : Watch) → IsWatched run n watch → All IsOfSome watch.calls.items
 all_of_some run n watch w k d l =
     let call : OpenCall = get_or watch.calls.items k d in
-    let h = of_list run n (suc n) watch.calls.items watch.returned call w.walked (k, l, same_at watch.calls.items k call d l) in
+    let h = of_list run n (suc n) watch.calls.items watch.returned call w.walked (k, l, get_or_default watch.calls.items k call d l) in
     (run h.0, h.2.kept)
 
 pub settled_few : (r : State) (old new : Watch) → Settles r old new → length new.calls.items ≤ length old.calls.items
@@ -147,9 +147,6 @@ both_ok (Err e) P Q R p q f = tt
 
 -- ---- a state to which no call comes back
 
-both_near : (b : Bool) → b ≡ true → b ≡ false → ⊥
-both_near b e f = let no : true ≡ false = sym e ∙ f in cc
-
 pub none_back : (run : ℕ → State) (n : ℕ) (watch : Watch) → IsWatched run n watch
     → is_near watch.near (run (suc n)).core.scalars.pc ≡ false → (c : ℕ) (p : Places) → ¬ IsReturn run p c (suc n)
 none_back run n watch w away c p r =
@@ -163,4 +160,4 @@ none_back run n watch w away c p r =
     let near =
     All-contains (λ (call : OpenCall). is_near watch.near call.places.tail ≡ true) watch.calls.items found.0 w.near found.1 in
     let there = subst (λ (q : Places). is_near watch.near q.tail ≡ true) same near in
-    both_near (is_near watch.near (run (suc n)).core.scalars.pc) (ap (λ a. is_near watch.near a) r.back.pc ∙ there) away
+    both_ways (is_near watch.near (run (suc n)).core.scalars.pc) away (ap (λ a. is_near watch.near a) r.back.pc ∙ there)

@@ -1,6 +1,7 @@
 -- States of a run that are whole.
 use Rattle.std.proofs.Common.{inl, inr, ◌≡◌, ℕ, suc, ◌≤◌, List, length, ap, subst, sym, ◌∙◌, arith}
 use Rattle.std.proofs.lemmas.List.{length-replicate}
+use Rattle.plain_lemmas.proofs.Numbers.{cases_lt_eq_gt}
 use Rattle.sm_types.specs.declared.config.Config.{Config}
 use Rattle.sm_types.specs.declared.shared_op.Event.{Event}
 use Rattle.paged_memory.specs.Image.{Program}
@@ -12,7 +13,7 @@ use Rattle.machine_step.specs.ProcessorState.{ProcessorState}
 use Rattle.kernel_contexts.specs.State.{State, start_state}
 use Rattle.lazy_saving.specs.Dormant.{Places}
 use Rattle.lone_runner.specs.Parting.{state_at}
-use Rattle.lone_runner.proofs.Partings.{compared, reach_start}
+use Rattle.lone_runner.proofs.Partings.{reach_start}
 use Rattle.abi_checker.specs.Faults.{IsMarkedAt, IsReturn}
 use Rattle.abi_checker.specs.Checked.{states_of}
 use Rattle.abi_checker.specs.Whole.{IsWholeWith, IsWholeAt, AreWhole}
@@ -41,13 +42,13 @@ whole_first run = record {
 pub whole_on : (run : ℕ → State) (n : ℕ) → AreWhole run n → ((p : Places) → IsMarkedAt run p (suc n) → IsWholeAt run (suc n))
     → ((c : ℕ) (p : Places) → IsReturn run p c (suc n) → IsWholeAt run (suc n)) → AreWhole run (suc n)
 whole_on run n whole called back = record {
-  calls = λ m p within marked. elim (compared m (suc n)) as (λ _. IsWholeAt run m) [
+  calls = λ m p within marked. elim (cases_lt_eq_gt m (suc n)) as (λ _. IsWholeAt run m) [
     | inl less ↦ whole.calls m p (omega (arith, less)) marked
     | inr (inl same) ↦
         subst (λ i. IsWholeAt run i) (sym same) (called p (subst (λ i. IsMarkedAt run p i) same marked))
     | inr (inr more) ↦ absurd (omega (arith, within, more))
   ];
-  returns = λ c m p within r. elim (compared m (suc n)) as (λ _. IsWholeAt run m) [
+  returns = λ c m p within r. elim (cases_lt_eq_gt m (suc n)) as (λ _. IsWholeAt run m) [
     | inl less ↦ whole.returns c m p (omega (arith, less)) r
     | inr (inl same) ↦
         subst (λ i. IsWholeAt run i) (sym same) (back c p (subst (λ i. IsReturn run p c i) same r))

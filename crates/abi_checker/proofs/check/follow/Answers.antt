@@ -1,4 +1,5 @@
 use Rattle.std.proofs.Common.{◌≡◌, ◌≢◌, ◌∙◌, sym, ap, refl, None}
+use Rattle.plain_lemmas.proofs.Options.{is_some-false}
 use Rattle.kernel_contexts.specs.Context.{config_of, image_of, thread_of}
 use Rattle.lone_runner.specs.Parting.{IsParting, parting_at}
 use Rattle.lone_runner.specs.Replayed.{place_of}
@@ -6,7 +7,7 @@ use Rattle.lone_runner.specs.declared.fault.AloneFault.TheVariants.{Memory}
 use Rattle.lone_runner.specs.declared.fault.AloneFault.{AloneFault}
 use Rattle.lone_runner.proofs.Given.{passed_on}
 use Rattle.lone_runner.proofs.Several.{held_still}
-use Rattle.lone_runner.proofs.Ways.{way_parts, way_strays, none_of, some_of}
+use Rattle.lone_runner.proofs.Ways.{way_parts, way_strays, some_of}
 use Rattle.abi_checker.proofs.Followed.{followed_first, followed_on, somewhere_here, somewhere_next, told_on, checked_if}
 use Rattle.abi_checker.proofs.AtOnce.{by_some, moved}
 use Rattle.abi_checker.proofs.check.follow.Goals as goal
@@ -77,7 +78,7 @@ go_far-requires-clause-some c =
     let e = c.in_ok-stop.ensures in
     let mid = c.make_turn.new.context in
     let ticket = c.make_turn.new.ticket in
-    let none = none_of _ (sym c.is_some.ensures ∙ c.if-is_some.false) in
+    let none = is_some-false _ (sym c.is_some.ensures ∙ c.if-is_some.false) in
     let told =
     told_on _ _ _ _ _ c.turns.context c.turns.ticket h.same.config h.same.thread c.turns.watch c.turns.found h.followed mid ticket _
     c.next_call-call.result c.call_made-past.result c.count-before.result c.count.result c.tell.new.self c.in_ok-found.found e.turn
@@ -101,7 +102,7 @@ turns-preserved c =
     let mid = c.make_turn.new.context in
     let ticket = c.make_turn.new.ticket in
     let new = c.go_far.new.context in
-    let none = none_of _ (sym c.is_some.ensures ∙ c.if-is_some.false) in
+    let none = is_some-false _ (sym c.is_some.ensures ∙ c.if-is_some.false) in
     let told =
     told_on _ _ _ _ _ c.turns.context c.turns.ticket h.same.config h.same.thread c.turns.watch c.turns.found h.followed mid ticket _
     c.next_call-call.result c.call_made-past.result c.count-before.result c.count.result c.tell.new.self c.in_ok-found.found e.turn

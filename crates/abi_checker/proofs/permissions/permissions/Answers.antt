@@ -1,7 +1,7 @@
 use Rattle.std.proofs.Common.{rules, List, ℕ, ◌/◌, ◌≡◌, ◌≤◌, ◌∙◌, sym, ap, length, take, arith, add-one, ◌++◌, ◌∷◌, []}
 use Rattle.std.proofs.lemmas.Grind.{common_steps}
 use Rattle.std.specs.FinMap.{entries, len-entries}
-use Rattle.abi_checker.proofs.Listed.{take_entry}
+use Rattle.plain_lemmas.proofs.Lists.{take-suc_at}
 use Rattle.abi_checker.proofs.permissions.permissions.Goals as goal
 
 pub pages-preserved : goal.pages-preserved
@@ -9,7 +9,7 @@ pages-preserved c =
     let items : c.push.new.self.items ≡ c.pages.list.items ++ (c.in-Some.page.address / 4096, c.in-Some.page.flags) ∷ [] = search rules in
     items ∙ ap (λ (l : List (ℕ × ℕ)). l ++ (c.in-Some.page.address / 4096, c.in-Some.page.flags) ∷ []) c.pages.invariant
     ∙ sym (ap (λ i. take i (entries c.args.pages.now.memory.perm)) (add-one c.pages.index)
-    ∙ take_entry (entries c.args.pages.now.memory.perm) c.pages.index _ c.in-Some.ensures.entry)
+    ∙ take-suc_at (entries c.args.pages.now.memory.perm) c.pages.index _ c.in-Some.ensures.entry)
 
 pub returns-clause-pages : goal.returns-clause-pages
 returns-clause-pages c =

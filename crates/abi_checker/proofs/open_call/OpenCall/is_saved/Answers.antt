@@ -1,14 +1,12 @@
 use Rattle.std.proofs.Common.{◌≡◌, ◌<◌, ◌≤◌, ℕ, List, [], length, sym, ap, refl, arith, false}
-use Rattle.std.specs.Prelude.{slice_index_or, IsTrue}
+use Rattle.std.specs.Prelude.{slice_index_or}
+use Rattle.plain_lemmas.proofs.Tests.{not_IsTrue-false}
 use Rattle.sve_vectors.specs.Layout.{items_of}
 use Rattle.lazy_saving.specs.Block.{buffer_of, saved_of}
 use Rattle.abi_checker.proofs.Rows.{at_most, row_long, few_saved, row_is, saved_at, saved_more, is_saved_slice, no_saved_slice}
 use Rattle.abi_checker.proofs.open_call.OpenCall.is_saved.Goals as goal
 use Rattle.abi_checker.proofs.open_call.OpenCall.is_saved.Goals.{else-done-saved-via-then-done-saved+else-not-has_row}
 use Rattle.abi_checker.proofs.open_call.OpenCall.is_saved.Goals.{else-done-saved-via-else-done-saved}
-
-not_yes : IsTrue false → ⊥
-not_yes e = cc
 
 pub has_row-requires : goal.has_row-requires
 has_row-requires c =
@@ -28,7 +26,7 @@ returns-then-not-has_row c =
     let row = row_is call i c.as_slice.result.now c.index.result.now below c.as_slice.ensures.value c.index.ensures in
     let few = is_saved_slice i c.len-size.result (saved_of call.bytes.block) c.saved_bytes-saved.result c.saved_bytes-saved.ensures
     c.if-done-saved.true in (
-      λ e. absurd (not_yes e),
+      λ e. absurd (not_IsTrue-false e),
       λ h.
           let there = saved_at c.args.pages.now.memory (buffer_of call.bytes.block) c.buffer_address-buffer.result (length call.za.items)
           c.len-size.result i (slice_index_or (items_of call.za.items) i []) c.as_slice.result.now (sym c.buffer_address-buffer.ensures)

@@ -1,12 +1,12 @@
 use Rattle.std.proofs.Common.{◌≡◌, ◌∙◌, sym, ap, subst, false}
-use Rattle.std.specs.Prelude.{IsTrue}
+use Rattle.std.proofs.lemmas.Bool.{eqb-true}
 use Rattle.std.specs.FinMap.{entries}
+use Rattle.plain_lemmas.proofs.Tests.{not_IsTrue-false}
 use Rattle.scalar_exec.specs.Registers.{x_of}
 use Rattle.paged_memory.specs.Memory.{AddressSpace}
 use Rattle.machine_step.specs.declared.machine.Machine.{Machine}
 use Rattle.abi_checker.specs.Keeping.{HasKeptMemory}
 use Rattle.abi_checker.specs.declared.open_call.OpenCall.{OpenCall}
-use Rattle.abi_checker.proofs.Next.{equal}
 use Rattle.abi_checker.proofs.open_call.OpenCall.keeps_rules.Goals as goal
 use Rattle.abi_checker.proofs.open_call.OpenCall.keeps_rules.Goals.{then-machine-self, else-machine-self}
 
@@ -14,9 +14,6 @@ use Rattle.abi_checker.proofs.open_call.OpenCall.keeps_rules.Goals.{then-machine
 record AreKept (call : OpenCall) (old : AddressSpace) (m : Machine) : Type 0 where
   pointer : x_of m.scalars 19 ≡ call.block
   memory : HasKeptMemory call old m.pages.memory
-
-no_yes : IsTrue false → ⊥
-no_yes e = cc
 
 pub returns-then-has_same_memory : goal.returns-then-has_same_memory
 unfolding x_of
@@ -29,7 +26,7 @@ returns-then-has_same_memory c = λ old p q.
         pointer = w.if-machine-self.true;
         memory = (w.has_same_memory.ensures old p pages).0 (sym w.value-is ∙ c.if-has_same_memory.true);
       }
-      | else-machine-self w ↦ absurd (w.if-machine-self.false (equal _ _ (sym w.value-is ∙ c.if-has_same_memory.true)))
+      | else-machine-self w ↦ absurd (w.if-machine-self.false (eqb-true _ _ (sym w.value-is ∙ c.if-has_same_memory.true)))
     ] in
     let now = subst (λ (m : Machine). AreKept call old m) same kept in (
       λ yes. record { pointer = now.pointer; memory = now.memory; za = c.has_kept_za.ensures.0 yes },
@@ -42,7 +39,7 @@ returns-else-has_same_memory c = λ old p q.
     let call : OpenCall = c.args.self.now in
     let same = c.machine-machine.ensures in
     let pages = ap (λ (m : Machine). entries m.pages.memory.perm) same ∙ q in (
-      λ yes. absurd (no_yes (sym c.if-has_same_memory.false ∙ yes)),
+      λ yes. absurd (not_IsTrue-false (sym c.if-has_same_memory.false ∙ yes)),
       λ h.
           let now : AreKept call old c.args.context.now.guest.machine = record { pointer = h.pointer; memory = h.memory } in
           let kept = subst (λ (m : Machine). AreKept call old m) (sym same) now in
