@@ -1,7 +1,7 @@
 -- What instructions with their first tests taken in advance are.
 use Rattle.std.specs.Prelude.{◌≡◌, ℕ, Bool, true, false, cond, Option, Some, None, MatchOption, IsTrue}
 use Rattle.sm_types.specs.declared.insn as types
-use types.{Insn.Insn, LoadStoreOp.LoadStoreOp}
+use types.Insn.{Insn}
 use types.AddSub.TheVariants.{Add, Adds, Sub, Subs}
 use types.Logical.TheVariants.{And, Orr, Eor, Ands}
 use types.MoveOp.TheVariants.{Movz, Movn, Movk}
@@ -13,18 +13,15 @@ use types.BranchRegisterOp.TheVariants.{Br, Blr, Ret}
 use types.PcRelativeOp.TheVariants.{Adr, Adrp}
 use types.LoadStoreOp.TheVariants.{Store, Load, LoadSignedTo64, LoadSignedTo32}
 use types.AccessSize.TheVariants.{Doubleword, Word, Halfword, Byte}
-use types.PairOp.TheVariants.{Ldp, Stp}
 use types.Insn.TheVariants as insn
 use types.Condition.TheVariants as condition
-use types.PairIndex.TheVariants as index
 use Rattle.sm_types.specs.declared.scalars.Scalars.{Scalars}
 use Rattle.a64_table.specs.Ranges.{IsInRow}
 use Rattle.scalar_exec.specs.Step.{is_scalar}
 use Rattle.scalar_exec.specs.Forms.{sum_immediate, sum_register, sum_shifted, sum_extended, logical}
 use Rattle.scalar_exec.specs.Forms.{logical_shifted, masked, halfword_move, field_move, selected}
-use Rattle.scalar_exec.specs.Forms.{compared, compared_immediate, two_sources}
-use Rattle.scalar_exec.specs.Forms.{product, long_product, high_product}
-use Rattle.scalar_exec.specs.Forms.{offset_access, access_of, pair_of, pair_at}
+use Rattle.scalar_exec.specs.Forms.{two_sources, product, long_product, high_product}
+use Rattle.scalar_exec.specs.Forms.{offset_access, access_of}
 use Rattle.scalar_exec.specs.Apart.{Steps}
 use Rattle.scalar_exec.specs.declared.flat.Flat.{Flat}
 use Rattle.scalar_exec.specs.declared.flat.Flat.TheVariants as flat
@@ -89,10 +86,6 @@ flat_insn (flat.NarrowCsel x) = Some (selected Csel false x)
 flat_insn (flat.NarrowCsinc x) = Some (selected Csinc false x)
 flat_insn (flat.NarrowCsinv x) = Some (selected Csinv false x)
 flat_insn (flat.NarrowCsneg x) = Some (selected Csneg false x)
-flat_insn (flat.Ccmp x) = Some (compared true x)
-flat_insn (flat.CcmpImmediate x) = Some (compared_immediate true x)
-flat_insn (flat.NarrowCcmp x) = Some (compared false x)
-flat_insn (flat.NarrowCcmpImmediate x) = Some (compared_immediate false x)
 flat_insn (flat.Udiv x) = Some (two_sources Udiv true x)
 flat_insn (flat.Sdiv x) = Some (two_sources Sdiv true x)
 flat_insn (flat.Lslv x) = Some (two_sources Lslv true x)
@@ -131,19 +124,8 @@ flat_insn (flat.Address rd imm) = Some (insn.PcRelative (record { op = Adr; imm 
 flat_insn (flat.PageAddress rd imm) = Some (insn.PcRelative (record { op = Adrp; imm = imm; rd = rd }))
 flat_insn _ = None
 
--- a load of one register
-abbrev pub is_loaded_by : LoadStoreOp → Bool
-is_loaded_by Store = false
-is_loaded_by Load = true
-is_loaded_by LoadSignedTo64 = true
-is_loaded_by LoadSignedTo32 = true
-
-abbrev pub is_plain_load : Insn → Bool
-is_plain_load (insn.LoadStore x) = is_loaded_by x.op
-is_plain_load other = false
-
 -- the load or store, where the flat one says all of it; else the instruction itself, where the flat one says
--- that it reads and writes scalar registers alone, or nothing
+-- that it reads and writes scalar registers alone, or nothing but where to look for it
 abbrev pub flat_rest : Flat → Insn → Option Insn
 flat_rest (flat.LoadDoubleword x) it = Some (offset_access Load Doubleword x)
 flat_rest (flat.LoadWord x) it = Some (offset_access Load Word x)
@@ -162,20 +144,12 @@ flat_rest (flat.LoadDoublewordAt x address) it = Some (access_of Load Doubleword
 flat_rest (flat.LoadWordAt x address) it = Some (access_of Load Word x address)
 flat_rest (flat.LoadHalfwordAt x address) it = Some (access_of Load Halfword x address)
 flat_rest (flat.LoadByteAt x address) it = Some (access_of Load Byte x address)
-flat_rest (flat.LoadSignedWordAt x address) it = Some (access_of LoadSignedTo64 Word x address)
-flat_rest (flat.LoadSignedHalfwordAt x address) it = Some (access_of LoadSignedTo64 Halfword x address)
-flat_rest (flat.LoadSignedByteAt x address) it = Some (access_of LoadSignedTo64 Byte x address)
-flat_rest (flat.NarrowLoadSignedHalfwordAt x address) it =
-    Some (access_of LoadSignedTo32 Halfword x address)
-flat_rest (flat.NarrowLoadSignedByteAt x address) it = Some (access_of LoadSignedTo32 Byte x address)
 flat_rest (flat.StoreDoublewordAt x address) it = Some (access_of Store Doubleword x address)
 flat_rest (flat.StoreWordAt x address) it = Some (access_of Store Word x address)
 flat_rest (flat.StoreHalfwordAt x address) it = Some (access_of Store Halfword x address)
 flat_rest (flat.StoreByteAt x address) it = Some (access_of Store Byte x address)
-flat_rest (flat.LoadPair x) it = Some (pair_of Ldp index.Offset x)
-flat_rest (flat.StorePair x) it = Some (pair_of Stp index.Offset x)
-flat_rest (flat.LoadPairAt x) it = Some (pair_at Ldp x)
-flat_rest (flat.StorePairAt x) it = Some (pair_at Stp x)
+flat_rest flat.Load it = Some it
+flat_rest flat.Store it = Some it
 flat_rest flat.Scalar it = cond (is_scalar it) (Some it) None
 flat_rest flat.Other it = Some it
 flat_rest _ _ = None

@@ -3,19 +3,16 @@ use Rattle.std.specs.Prelude.{ℕ, Bool, true, false}
 use Rattle.sm_types.specs.declared.insn as types
 use types.{Insn.Insn, AddSub.AddSub, Logical.Logical, MoveOp.MoveOp, BitfieldOp.BitfieldOp, SelectOp.SelectOp}
 use types.{TwoSourceOp.TwoSourceOp, ShiftedRegister.ShiftedRegister, Address.Address}
-use types.{LoadStoreOp.LoadStoreOp, AccessSize.AccessSize, PairOp.PairOp, PairIndex.PairIndex}
+use types.{LoadStoreOp.LoadStoreOp, AccessSize.AccessSize}
 use types.AddSub.TheVariants.{Add}
 use types.ShiftKind.TheVariants.{Lsl}
-use types.CompareOp.TheVariants.{Ccmp}
 use types.Address.TheVariants.{Offset}
 use types.Multiply.TheVariants.{Same, Long, High}
-use types.CompareOperand.TheVariants as operand
 use types.Insn.TheVariants as insn
 use Rattle.scalar_exec.specs.declared.payloads as forms
 use forms.{Immediate.Immediate, Registers.Registers, LeftShifted.LeftShifted, Shifted.Shifted}
 use forms.{Extended.Extended, BitFields.BitFields, Halfword.Halfword, Selection.Selection}
-use forms.{Comparison.Comparison, Factors.Factors, OffsetAccess.OffsetAccess, Base.Base}
-use forms.{Pair.Pair, IndexedPair.IndexedPair}
+use forms.{Factors.Factors, OffsetAccess.OffsetAccess, Base.Base}
 
 -- a register that is not shifted
 abbrev pub unshifted : ℕ → ShiftedRegister
@@ -95,30 +92,6 @@ selected op wide x =
     insn.ConditionalSelect
     (record { op = op; wide = wide; condition = x.condition; rm = x.rm; rn = x.rn; rd = x.rd })
 
--- a comparison with a register by a condition
-abbrev pub compared : Bool → Comparison → Insn
-compared wide x =
-    insn.ConditionalCompare (record {
-      op = Ccmp;
-      wide = wide;
-      operand = operand.Register x.operand;
-      condition = x.condition;
-      nzcv = x.nzcv;
-      rn = x.rn;
-    })
-
--- a comparison with an immediate by a condition
-abbrev pub compared_immediate : Bool → Comparison → Insn
-compared_immediate wide x =
-    insn.ConditionalCompare (record {
-      op = Ccmp;
-      wide = wide;
-      operand = operand.Immediate x.operand;
-      condition = x.condition;
-      nzcv = x.nzcv;
-      rn = x.rn;
-    })
-
 -- a quotient, or a shift by a register
 abbrev pub two_sources : TwoSourceOp → Bool → Registers → Insn
 two_sources op wide x =
@@ -148,29 +121,3 @@ offset_access op size x =
 abbrev pub access_of : LoadStoreOp → AccessSize → Base → Address → Insn
 access_of op size x address =
     insn.LoadStore (record { op = op; size = size; address = address; rn = x.rn; rt = x.rt })
-
--- a load or store of two registers of 64 bits
-abbrev pub pair_of : PairOp → PairIndex → Pair → Insn
-pair_of op index x =
-    insn.LoadStorePair (record {
-      op = op;
-      wide = true;
-      index = index;
-      offset = x.offset;
-      rn = x.rn;
-      rt = x.rt;
-      rt2 = x.rt2;
-    })
-
--- the same, with what becomes of the base
-abbrev pub pair_at : PairOp → IndexedPair → Insn
-pair_at op x =
-    insn.LoadStorePair (record {
-      op = op;
-      wide = true;
-      index = x.index;
-      offset = x.offset;
-      rn = x.rn;
-      rt = x.rt;
-      rt2 = x.rt2;
-    })

@@ -4,7 +4,7 @@ ghost use Rattle.std.specs.Prelude.{◌≡◌, ◌<◌, ◌+◌, ◌%◌, ◌^�
 ghost use Rattle.a64_table.specs.Ranges.{IsAddSubImmediate, IsAddSubRegister, IsAddSubExtended, IsBranch};
 ghost use Rattle.a64_table.specs.Ranges.{IsLogicalRegister, IsLogicalImmediate, IsMoveWide, IsBitfieldMove};
 ghost use Rattle.a64_table.specs.Ranges.{IsConditionalSelect, IsConditionalCompare, IsTwoSource, IsMultiply};
-ghost use Rattle.a64_table.specs.Ranges.{IsPcRelative};
+ghost use Rattle.a64_table.specs.Ranges.{IsPcRelative, IsAddSubCarry, IsExtract, IsOneSource};
 ghost use Rattle.scalar_exec.specs.Registers.{with_x, next_address};
 ghost use Rattle.scalar_exec.specs.Branches.{branch_if};
 ghost use Rattle.scalar_exec.specs.Apart.{at_distance, Steps, linked_by};
@@ -13,15 +13,18 @@ ghost use Rattle.sm_types.specs.declared.insn.Insn.TheVariants as insn;
 use crate::branches::{branch_target, relative};
 use crate::conditional::{exec_conditional_compare, exec_conditional_select, holds};
 use crate::logic::{exec_logical_immediate, exec_logical_register};
-use crate::moves::{exec_bitfield_move, exec_move_wide};
+use crate::moves::{exec_bitfield_move, exec_extract, exec_move_wide};
 use crate::multiply::exec_multiply;
 use crate::registers::{next_address, read_x, register, write_x};
-use crate::sources::exec_two_source;
-use crate::sums::{exec_add_sub_extended, exec_add_sub_immediate, exec_add_sub_register};
+use crate::sources::{exec_one_source, exec_two_source};
+use crate::sums::{
+    exec_add_sub_carry, exec_add_sub_extended, exec_add_sub_immediate, exec_add_sub_register,
+};
 use sm_types::{
-    AddSubExtended, AddSubImmediate, AddSubRegister, BitfieldMove, Branch, BranchRegister,
-    BranchRegisterOp, ConditionalCompare, ConditionalSelect, LogicalImmediate, LogicalRegister,
-    MoveWide, Multiply, PcRelative, Scalars, TwoSource,
+    AddSubCarry, AddSubExtended, AddSubImmediate, AddSubRegister, BitfieldMove, Branch,
+    BranchRegister, BranchRegisterOp, ConditionalCompare, ConditionalSelect, Extract,
+    LogicalImmediate, LogicalRegister, MoveWide, Multiply, OneSource, PcRelative, Scalars,
+    TwoSource,
 };
 
 /// Adds or subtracts an immediate.
@@ -51,6 +54,16 @@ pub fn step_add_sub_extended(s: &mut Scalars, x: &AddSubExtended, at: u64) -> u6
     ensures { (base : ℕ) → Steps (insn.AddSubExtended x.now) base at result s.old s.new }
 {
     exec_add_sub_extended(s, x);
+    next_address(at)
+}
+
+/// Adds or subtracts a register with the carry flag.
+#[inline(always)]
+pub fn step_add_sub_carry(s: &mut Scalars, x: &AddSubCarry, at: u64) -> u64
+    requires { IsAddSubCarry x.now }
+    ensures { (base : ℕ) → Steps (insn.AddSubCarry x.now) base at result s.old s.new }
+{
+    exec_add_sub_carry(s, x);
     next_address(at)
 }
 
@@ -94,6 +107,16 @@ pub fn step_bitfield_move(s: &mut Scalars, x: &BitfieldMove, at: u64) -> u64
     next_address(at)
 }
 
+/// Extracts a word from two registers.
+#[inline(always)]
+pub fn step_extract(s: &mut Scalars, x: &Extract, at: u64) -> u64
+    requires { IsExtract x.now }
+    ensures { (base : ℕ) → Steps (insn.Extract x.now) base at result s.old s.new }
+{
+    exec_extract(s, x);
+    next_address(at)
+}
+
 /// Takes one of two registers by a condition.
 #[inline(always)]
 pub fn step_conditional_select(s: &mut Scalars, x: &ConditionalSelect, at: u64) -> u64
@@ -111,6 +134,16 @@ pub fn step_conditional_compare(s: &mut Scalars, x: &ConditionalCompare, at: u64
     ensures { (base : ℕ) → Steps (insn.ConditionalCompare x.now) base at result s.old s.new }
 {
     exec_conditional_compare(s, x);
+    next_address(at)
+}
+
+/// Reverses or counts the bits of a register.
+#[inline(always)]
+pub fn step_one_source(s: &mut Scalars, x: &OneSource, at: u64) -> u64
+    requires { IsOneSource x.now }
+    ensures { (base : ℕ) → Steps (insn.OneSource x.now) base at result s.old s.new }
+{
+    exec_one_source(s, x);
     next_address(at)
 }
 

@@ -38,6 +38,14 @@ pub fn holds(condition: Condition, s: &Scalars) -> bool
     }
 }
 
+/// The same by a call, so that what selects or compares by it stays small.
+#[inline(never)]
+fn meets(condition: Condition, s: &Scalars) -> bool
+    ensures { result ≡ condition_holds condition s.now }
+{
+    holds(condition, s)
+}
+
 /// What is taken of the second register where the condition fails.
 #[inline(always)]
 #[tactic(auto, unfolding(crate::specs::Conditional::otherwise))]
@@ -61,7 +69,7 @@ pub fn exec_conditional_select(s: &mut Scalars, x: &ConditionalSelect)
     ensures value { s.new ≡ conditional_select x.now s.old }
     ensures place { s.new.pc ≡ s.old.pc }
 {
-    let value = if holds(x.condition, s) {
+    let value = if meets(x.condition, s) {
         register(s, x.rn, x.wide)
     } else {
         second(x.op, register(s, x.rm, x.wide), x.wide)
@@ -119,7 +127,7 @@ pub fn exec_conditional_compare(s: &mut Scalars, x: &ConditionalCompare)
     ensures value { s.new ≡ conditional_compare x.now s.old }
     ensures place { s.new.pc ≡ s.old.pc }
 {
-    let result = if holds(x.condition, s) {
+    let result = if meets(x.condition, s) {
         let a = register(s, x.rn, x.wide);
         compare(x.op, a, operand(s, x.operand, x.wide), x.wide)
     } else {

@@ -9,14 +9,13 @@ ghost use Rattle.scalar_exec.specs.Flat.{IsFlatOf, IsFlatInRow, StepsTo, StepsFl
 
 use crate::exec::{Flow, exec_scalar};
 use crate::forms::{
-    branch_always, branch_by, branch_by_bit, branch_if, branch_to, compared, compared_immediate,
-    field_move, halfword_move, high_product, logical, logical_shifted, long_product, masked,
-    product, selected, sum_extended, sum_immediate, sum_register, sum_shifted, two_sources,
-    write_address,
+    branch_always, branch_by, branch_by_bit, branch_if, branch_to, field_move, halfword_move,
+    high_product, logical, logical_shifted, long_product, masked, product, selected, sum_extended,
+    sum_immediate, sum_register, sum_shifted, two_sources, write_address,
 };
 use crate::payloads::{
-    Base, BitFields, Comparison, Extended, Factors, Halfword, Immediate, IndexedPair, LeftShifted,
-    OffsetAccess, Pair, Registers, Selection, Shifted,
+    Base, BitFields, Extended, Factors, Halfword, Immediate, LeftShifted, OffsetAccess, Registers,
+    Selection, Shifted,
 };
 use crate::registers::next_address;
 use sm_types::{
@@ -24,7 +23,7 @@ use sm_types::{
     Scalars, SelectOp, TwoSourceOp,
 };
 
-/// An instruction by what it does: each but `Scalar` and `Other` says all of it. What is not said
+/// An instruction by what it does: each but the last four says all of it. What is not said
 /// to be narrow is of 64 bits.
 #[derive(Clone, Copy)]
 pub enum Flat {
@@ -83,7 +82,7 @@ pub enum Flat {
     Sbfm(BitFields),
     NarrowUbfm(BitFields),
     NarrowSbfm(BitFields),
-    // Selections and comparisons by a condition.
+    // Selections by a condition.
     Csel(Selection),
     Csinc(Selection),
     Csinv(Selection),
@@ -92,10 +91,6 @@ pub enum Flat {
     NarrowCsinc(Selection),
     NarrowCsinv(Selection),
     NarrowCsneg(Selection),
-    Ccmp(Comparison),
-    CcmpImmediate(Comparison),
-    NarrowCcmp(Comparison),
-    NarrowCcmpImmediate(Comparison),
     // Divisions, shifts by a register, and products.
     Udiv(Registers),
     Sdiv(Registers),
@@ -152,19 +147,14 @@ pub enum Flat {
     LoadWordAt(Base, Address),
     LoadHalfwordAt(Base, Address),
     LoadByteAt(Base, Address),
-    LoadSignedWordAt(Base, Address),
-    LoadSignedHalfwordAt(Base, Address),
-    LoadSignedByteAt(Base, Address),
-    NarrowLoadSignedHalfwordAt(Base, Address),
-    NarrowLoadSignedByteAt(Base, Address),
     StoreDoublewordAt(Base, Address),
     StoreWordAt(Base, Address),
     StoreHalfwordAt(Base, Address),
     StoreByteAt(Base, Address),
-    LoadPair(Pair),
-    StorePair(Pair),
-    LoadPairAt(IndexedPair),
-    StorePairAt(IndexedPair),
+    /// Another that may be a load.
+    Load,
+    /// Another that may be a store.
+    Store,
     /// Another that reads and writes scalar registers alone.
     Scalar,
     /// Any other.
@@ -260,10 +250,6 @@ pub fn exec_at(s: &mut Scalars, flat: &Flat, base: u64, at: u64) -> Option<u64>
         Flat::NarrowCsinc(x) => Some(selected(s, at, SelectOp::Csinc, false, x)),
         Flat::NarrowCsinv(x) => Some(selected(s, at, SelectOp::Csinv, false, x)),
         Flat::NarrowCsneg(x) => Some(selected(s, at, SelectOp::Csneg, false, x)),
-        Flat::Ccmp(x) => Some(compared(s, at, true, x)),
-        Flat::CcmpImmediate(x) => Some(compared_immediate(s, at, true, x)),
-        Flat::NarrowCcmp(x) => Some(compared(s, at, false, x)),
-        Flat::NarrowCcmpImmediate(x) => Some(compared_immediate(s, at, false, x)),
         Flat::Udiv(x) => Some(two_sources(s, at, TwoSourceOp::Udiv, true, x)),
         Flat::Sdiv(x) => Some(two_sources(s, at, TwoSourceOp::Sdiv, true, x)),
         Flat::Lslv(x) => Some(two_sources(s, at, TwoSourceOp::Lslv, true, x)),
@@ -324,19 +310,12 @@ pub fn exec_at(s: &mut Scalars, flat: &Flat, base: u64, at: u64) -> Option<u64>
         Flat::LoadWordAt(_, _) => None,
         Flat::LoadHalfwordAt(_, _) => None,
         Flat::LoadByteAt(_, _) => None,
-        Flat::LoadSignedWordAt(_, _) => None,
-        Flat::LoadSignedHalfwordAt(_, _) => None,
-        Flat::LoadSignedByteAt(_, _) => None,
-        Flat::NarrowLoadSignedHalfwordAt(_, _) => None,
-        Flat::NarrowLoadSignedByteAt(_, _) => None,
         Flat::StoreDoublewordAt(_, _) => None,
         Flat::StoreWordAt(_, _) => None,
         Flat::StoreHalfwordAt(_, _) => None,
         Flat::StoreByteAt(_, _) => None,
-        Flat::LoadPair(_) => None,
-        Flat::StorePair(_) => None,
-        Flat::LoadPairAt(_) => None,
-        Flat::StorePairAt(_) => None,
+        Flat::Load => None,
+        Flat::Store => None,
         Flat::Scalar => None,
         Flat::Other => None,
     }

@@ -4,16 +4,15 @@ ghost use Rattle.scalar_exec.specs.Flat.{IsFlatOf};
 
 use crate::flat::Flat;
 use crate::payloads::{
-    Base, BitFields, Comparison, Extended, Factors, Halfword, Immediate, IndexedPair, LeftShifted,
-    OffsetAccess, Pair, Registers, Selection, Shifted,
+    Base, BitFields, Extended, Factors, Halfword, Immediate, LeftShifted, OffsetAccess, Registers,
+    Selection, Shifted,
 };
 use sm_types::{
     AccessSize, AddSub, AddSubExtended, AddSubImmediate, AddSubRegister, Address, BitfieldMove,
-    BitfieldOp, Branch, BranchRegister, BranchRegisterOp, CompareOp, CompareOperand, Condition,
-    ConditionalCompare, ConditionalSelect, ExtendedRegister, Insn, LoadStore, LoadStoreOp,
-    LoadStorePair, Logical, LogicalImmediate, LogicalRegister, MoveOp, MoveWide, Multiply,
-    PairIndex, PairOp, PcRelative, PcRelativeOp, SelectOp, ShiftKind, ShiftedRegister, TwoSource,
-    TwoSourceOp,
+    BitfieldOp, Branch, BranchRegister, BranchRegisterOp, ConditionalSelect, ExtendedRegister,
+    Insn, LoadStore, LoadStoreOp, LoadStorePair, Logical, LogicalImmediate, LogicalRegister,
+    MoveOp, MoveWide, Multiply, PairOp, PcRelative, PcRelativeOp, SelectOp, ShiftKind,
+    ShiftedRegister, TwoSource, TwoSourceOp,
 };
 
 /// A sum with an immediate.
@@ -233,53 +232,6 @@ fn flat_select(x: &ConditionalSelect) -> Flat
         (SelectOp::Csinc, false) => Flat::NarrowCsinc(fields),
         (SelectOp::Csinv, false) => Flat::NarrowCsinv(fields),
         (SelectOp::Csneg, false) => Flat::NarrowCsneg(fields),
-    }
-}
-
-/// A comparison by a condition.
-fn flat_compare(x: &ConditionalCompare) -> Flat
-    ensures { IsFlatOf result (insn.ConditionalCompare x.now) }
-{
-    let ConditionalCompare {
-        op,
-        wide,
-        operand,
-        condition,
-        nzcv,
-        rn,
-    } = *x;
-    match (op, wide, operand) {
-        (CompareOp::Ccmp, true, CompareOperand::Register(operand)) => Flat::Ccmp(Comparison {
-            condition,
-            nzcv,
-            operand,
-            rn,
-        }),
-        (CompareOp::Ccmp, false, CompareOperand::Register(operand)) => Flat::NarrowCcmp(
-            Comparison {
-                condition,
-                nzcv,
-                operand,
-                rn,
-            },
-        ),
-        (CompareOp::Ccmp, true, CompareOperand::Immediate(operand)) => Flat::CcmpImmediate(
-            Comparison {
-                condition,
-                nzcv,
-                operand,
-                rn,
-            },
-        ),
-        (CompareOp::Ccmp, false, CompareOperand::Immediate(operand)) => Flat::NarrowCcmpImmediate(
-            Comparison {
-                condition,
-                nzcv,
-                operand,
-                rn,
-            },
-        ),
-        _ => Flat::Scalar,
     }
 }
 
@@ -512,26 +464,6 @@ fn flat_access(x: &LoadStore) -> Flat
             address,
         ),
         (LoadStoreOp::Load, AccessSize::Byte, _) => Flat::LoadByteAt(Base { rn, rt }, address),
-        (LoadStoreOp::LoadSignedTo64, AccessSize::Word, _) => Flat::LoadSignedWordAt(
-            Base { rn, rt },
-            address,
-        ),
-        (LoadStoreOp::LoadSignedTo64, AccessSize::Halfword, _) => Flat::LoadSignedHalfwordAt(
-            Base { rn, rt },
-            address,
-        ),
-        (LoadStoreOp::LoadSignedTo64, AccessSize::Byte, _) => Flat::LoadSignedByteAt(
-            Base { rn, rt },
-            address,
-        ),
-        (LoadStoreOp::LoadSignedTo32, AccessSize::Halfword, _) => Flat::NarrowLoadSignedHalfwordAt(
-            Base { rn, rt },
-            address,
-        ),
-        (LoadStoreOp::LoadSignedTo32, AccessSize::Byte, _) => Flat::NarrowLoadSignedByteAt(
-            Base { rn, rt },
-            address,
-        ),
         (LoadStoreOp::Store, AccessSize::Doubleword, _) => Flat::StoreDoublewordAt(
             Base { rn, rt },
             address,
@@ -550,34 +482,9 @@ fn flat_access(x: &LoadStore) -> Flat
 fn flat_pair(x: &LoadStorePair) -> Flat
     ensures { IsFlatOf result (insn.LoadStorePair x.now) }
 {
-    let LoadStorePair {
-        op,
-        wide,
-        index,
-        offset,
-        rn,
-        rt,
-        rt2,
-    } = *x;
-    let fields = Pair {
-        rn,
-        rt,
-        rt2,
-        offset,
-    };
-    let indexed = IndexedPair {
-        index,
-        rn,
-        rt,
-        rt2,
-        offset,
-    };
-    match (op, wide, index) {
-        (PairOp::Ldp, true, PairIndex::Offset) => Flat::LoadPair(fields),
-        (PairOp::Stp, true, PairIndex::Offset) => Flat::StorePair(fields),
-        (PairOp::Ldp, true, _) => Flat::LoadPairAt(indexed),
-        (PairOp::Stp, true, _) => Flat::StorePairAt(indexed),
-        _ => Flat::Other,
+    match x.op {
+        PairOp::Ldp => Flat::Load,
+        PairOp::Stp => Flat::Store,
     }
 }
 
@@ -594,7 +501,6 @@ pub fn flatten(insn: &Insn) -> Flat
         Insn::MoveWide(x) => flat_halfword(x),
         Insn::BitfieldMove(x) => flat_field(x),
         Insn::ConditionalSelect(x) => flat_select(x),
-        Insn::ConditionalCompare(x) => flat_compare(x),
         Insn::TwoSource(x) => flat_two_sources(x),
         Insn::Multiply(x) => flat_multiply(x),
         Insn::Branch(x) => flat_branch(x),
@@ -602,6 +508,8 @@ pub fn flatten(insn: &Insn) -> Flat
         Insn::PcRelative(x) => flat_address(x),
         Insn::LoadStore(x) => flat_access(x),
         Insn::LoadStorePair(x) => flat_pair(x),
+        Insn::LoadLiteral(_) => Flat::Load,
+        Insn::ConditionalCompare(_) => Flat::Scalar,
         Insn::Extract(_) => Flat::Scalar,
         Insn::AddSubCarry(_) => Flat::Scalar,
         Insn::OneSource(_) => Flat::Scalar,

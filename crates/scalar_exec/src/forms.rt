@@ -1,31 +1,26 @@
-//! Instructions that are made of constants and a flat one's fields, and executed with PC apart.
+//! Instructions that are made of constants and a flat one's fields, and executed with PC apart. They are inlined
+//! where what is constant of them leaves little.
 ghost use Rattle.std.specs.Prelude.{◌≡◌, ℕ, true, false};
 ghost use Rattle.sm_types.specs.declared.insn.Insn.TheVariants as insn;
 ghost use Rattle.a64_table.specs.Ranges.{IsInRow};
 ghost use Rattle.scalar_exec.specs.Apart.{Steps};
 ghost use Rattle.scalar_exec.specs.Forms.{unshifted, sum_immediate, sum_register, sum_shifted, sum_extended};
 ghost use Rattle.scalar_exec.specs.Forms.{logical, logical_shifted, masked, halfword_move, field_move};
-ghost use Rattle.scalar_exec.specs.Forms.{selected, compared, compared_immediate, two_sources, product};
-ghost use Rattle.scalar_exec.specs.Forms.{long_product, high_product};
-ghost use Rattle.scalar_exec.specs.Forms.{offset_access, access_of, pair_of, pair_at};
+ghost use Rattle.scalar_exec.specs.Forms.{selected, two_sources, product, long_product, high_product};
 
 use crate::apart::{
     step_add_sub_extended, step_add_sub_immediate, step_add_sub_register, step_bitfield_move,
-    step_branch, step_branch_register, step_conditional_compare, step_conditional_select,
-    step_logical_immediate, step_logical_register, step_move_wide, step_multiply, step_pc_relative,
-    step_two_source,
+    step_branch, step_branch_register, step_conditional_select, step_logical_immediate,
+    step_logical_register, step_move_wide, step_multiply, step_pc_relative, step_two_source,
 };
 use crate::payloads::{
-    Base, BitFields, Comparison, Extended, Factors, Halfword, Immediate, IndexedPair, LeftShifted,
-    OffsetAccess, Pair, Registers, Selection, Shifted,
+    BitFields, Extended, Factors, Halfword, Immediate, LeftShifted, Registers, Selection, Shifted,
 };
 use sm_types::{
-    AccessSize, AddSub, AddSubExtended, AddSubImmediate, AddSubRegister, Address, BitfieldMove,
-    BitfieldOp, Branch, BranchRegister, BranchRegisterOp, CompareOp, CompareOperand, Condition,
-    ConditionalCompare, ConditionalSelect, ExtendedRegister, LoadStore, LoadStoreOp, LoadStorePair,
-    Logical, LogicalImmediate, LogicalRegister, MoveOp, MoveWide, Multiply, PairIndex, PairOp,
-    PcRelative, PcRelativeOp, Scalars, SelectOp, ShiftKind, ShiftedRegister, TwoSource,
-    TwoSourceOp,
+    AddSub, AddSubExtended, AddSubImmediate, AddSubRegister, BitfieldMove, BitfieldOp, Branch,
+    BranchRegister, BranchRegisterOp, Condition, ConditionalSelect, ExtendedRegister, Logical,
+    LogicalImmediate, LogicalRegister, MoveOp, MoveWide, Multiply, PcRelative, PcRelativeOp,
+    Scalars, SelectOp, ShiftKind, ShiftedRegister, TwoSource, TwoSourceOp,
 };
 
 /// A register that is not shifted.
@@ -41,7 +36,7 @@ fn unshifted(rm: u8) -> ShiftedRegister
 }
 
 /// Adds or subtracts an immediate.
-#[inline(always)]
+#[inline]
 pub fn sum_immediate(s: &mut Scalars, at: u64, op: AddSub, wide: bool, x: Immediate) -> u64
     requires { IsInRow (sum_immediate op wide x) }
     ensures { (base : ℕ) → Steps (sum_immediate op wide x) base at result s.old s.new }
@@ -58,7 +53,7 @@ pub fn sum_immediate(s: &mut Scalars, at: u64, op: AddSub, wide: bool, x: Immedi
 }
 
 /// Adds or subtracts a register.
-#[inline(always)]
+#[inline]
 pub fn sum_register(s: &mut Scalars, at: u64, op: AddSub, wide: bool, x: Registers) -> u64
     requires { IsInRow (sum_register op wide x) }
     ensures { (base : ℕ) → Steps (sum_register op wide x) base at result s.old s.new }
@@ -74,7 +69,7 @@ pub fn sum_register(s: &mut Scalars, at: u64, op: AddSub, wide: bool, x: Registe
 }
 
 /// Adds or subtracts a register that is shifted left.
-#[inline(always)]
+#[inline]
 pub fn sum_shifted(s: &mut Scalars, at: u64, op: AddSub, x: LeftShifted) -> u64
     requires { IsInRow (sum_shifted op x) }
     ensures { (base : ℕ) → Steps (sum_shifted op x) base at result s.old s.new }
@@ -94,7 +89,7 @@ pub fn sum_shifted(s: &mut Scalars, at: u64, op: AddSub, x: LeftShifted) -> u64
 }
 
 /// Adds an extended register.
-#[inline(always)]
+#[inline]
 pub fn sum_extended(s: &mut Scalars, at: u64, x: Extended) -> u64
     requires { IsInRow (sum_extended x) }
     ensures { (base : ℕ) → Steps (sum_extended x) base at result s.old s.new }
@@ -114,7 +109,7 @@ pub fn sum_extended(s: &mut Scalars, at: u64, x: Extended) -> u64
 }
 
 /// Combines two registers.
-#[inline(always)]
+#[inline]
 pub fn logical(
     s: &mut Scalars,
     at: u64,
@@ -138,7 +133,7 @@ pub fn logical(
 }
 
 /// Combines a register with another that is shifted.
-#[inline(always)]
+#[inline]
 pub fn logical_shifted(s: &mut Scalars, at: u64, op: Logical, x: Shifted) -> u64
     requires { IsInRow (logical_shifted op x) }
     ensures { (base : ℕ) → Steps (logical_shifted op x) base at result s.old s.new }
@@ -159,7 +154,7 @@ pub fn logical_shifted(s: &mut Scalars, at: u64, op: Logical, x: Shifted) -> u64
 }
 
 /// Combines a register with a mask.
-#[inline(always)]
+#[inline]
 pub fn masked(s: &mut Scalars, at: u64, op: Logical, wide: bool, x: BitFields) -> u64
     requires { IsInRow (masked op wide x) }
     ensures { (base : ℕ) → Steps (masked op wide x) base at result s.old s.new }
@@ -177,7 +172,7 @@ pub fn masked(s: &mut Scalars, at: u64, op: Logical, wide: bool, x: BitFields) -
 }
 
 /// Moves a halfword.
-#[inline(always)]
+#[inline]
 pub fn halfword_move(s: &mut Scalars, at: u64, op: MoveOp, wide: bool, x: Halfword) -> u64
     requires { IsInRow (halfword_move op wide x) }
     ensures { (base : ℕ) → Steps (halfword_move op wide x) base at result s.old s.new }
@@ -193,7 +188,7 @@ pub fn halfword_move(s: &mut Scalars, at: u64, op: MoveOp, wide: bool, x: Halfwo
 }
 
 /// Moves a bit field.
-#[inline(always)]
+#[inline]
 pub fn field_move(s: &mut Scalars, at: u64, op: BitfieldOp, wide: bool, x: BitFields) -> u64
     requires { IsInRow (field_move op wide x) }
     ensures { (base : ℕ) → Steps (field_move op wide x) base at result s.old s.new }
@@ -210,7 +205,7 @@ pub fn field_move(s: &mut Scalars, at: u64, op: BitfieldOp, wide: bool, x: BitFi
 }
 
 /// Takes one of two registers by a condition.
-#[inline(always)]
+#[inline]
 pub fn selected(s: &mut Scalars, at: u64, op: SelectOp, wide: bool, x: Selection) -> u64
     requires { IsInRow (selected op wide x) }
     ensures { (base : ℕ) → Steps (selected op wide x) base at result s.old s.new }
@@ -226,42 +221,8 @@ pub fn selected(s: &mut Scalars, at: u64, op: SelectOp, wide: bool, x: Selection
     step_conditional_select(s, &insn, at)
 }
 
-/// Compares with a register where a condition holds.
-#[inline(always)]
-pub fn compared(s: &mut Scalars, at: u64, wide: bool, x: Comparison) -> u64
-    requires { IsInRow (compared wide x) }
-    ensures { (base : ℕ) → Steps (compared wide x) base at result s.old s.new }
-{
-    let insn = ConditionalCompare {
-        op: CompareOp::Ccmp,
-        wide,
-        operand: CompareOperand::Register(x.operand),
-        condition: x.condition,
-        nzcv: x.nzcv,
-        rn: x.rn,
-    };
-    step_conditional_compare(s, &insn, at)
-}
-
-/// Compares with an immediate where a condition holds.
-#[inline(always)]
-pub fn compared_immediate(s: &mut Scalars, at: u64, wide: bool, x: Comparison) -> u64
-    requires { IsInRow (compared_immediate wide x) }
-    ensures { (base : ℕ) → Steps (compared_immediate wide x) base at result s.old s.new }
-{
-    let insn = ConditionalCompare {
-        op: CompareOp::Ccmp,
-        wide,
-        operand: CompareOperand::Immediate(x.operand),
-        condition: x.condition,
-        nzcv: x.nzcv,
-        rn: x.rn,
-    };
-    step_conditional_compare(s, &insn, at)
-}
-
 /// Divides, or shifts by a register.
-#[inline(always)]
+#[inline]
 pub fn two_sources(s: &mut Scalars, at: u64, op: TwoSourceOp, wide: bool, x: Registers) -> u64
     requires { IsInRow (two_sources op wide x) }
     ensures { (base : ℕ) → Steps (two_sources op wide x) base at result s.old s.new }
@@ -277,7 +238,7 @@ pub fn two_sources(s: &mut Scalars, at: u64, op: TwoSourceOp, wide: bool, x: Reg
 }
 
 /// Adds a product to a register, or subtracts it.
-#[inline(always)]
+#[inline]
 pub fn product(s: &mut Scalars, at: u64, subtract: bool, wide: bool, x: Factors) -> u64
     requires { IsInRow (product subtract wide x) }
     ensures { (base : ℕ) → Steps (product subtract wide x) base at result s.old s.new }
@@ -294,7 +255,7 @@ pub fn product(s: &mut Scalars, at: u64, subtract: bool, wide: bool, x: Factors)
 }
 
 /// Adds a product of words of 32 bits to a register.
-#[inline(always)]
+#[inline]
 pub fn long_product(s: &mut Scalars, at: u64, signed: bool, x: Factors) -> u64
     requires { IsInRow (long_product signed x) }
     ensures { (base : ℕ) → Steps (long_product signed x) base at result s.old s.new }
@@ -311,7 +272,7 @@ pub fn long_product(s: &mut Scalars, at: u64, signed: bool, x: Factors) -> u64
 }
 
 /// The upper half of a product.
-#[inline(always)]
+#[inline]
 pub fn high_product(s: &mut Scalars, at: u64, signed: bool, x: Registers) -> u64
     requires { IsInRow (high_product signed x) }
     ensures { (base : ℕ) → Steps (high_product signed x) base at result s.old s.new }
@@ -326,7 +287,7 @@ pub fn high_product(s: &mut Scalars, at: u64, signed: bool, x: Registers) -> u64
 }
 
 /// Branches always.
-#[inline(always)]
+#[inline]
 pub fn branch_always(s: &mut Scalars, base: u64, at: u64, link: bool, words: i32) -> u64
     requires { IsInRow (insn.Branch (Branch.Unconditional link words)) }
     ensures { Steps (insn.Branch (Branch.Unconditional link words)) base at result s.old s.new }
@@ -335,7 +296,7 @@ pub fn branch_always(s: &mut Scalars, base: u64, at: u64, link: bool, words: i32
 }
 
 /// Branches where a condition holds.
-#[inline(always)]
+#[inline]
 pub fn branch_if(s: &mut Scalars, base: u64, at: u64, condition: Condition, words: i32) -> u64
     requires { IsInRow (insn.Branch (Branch.Conditional condition words)) }
     ensures { Steps (insn.Branch (Branch.Conditional condition words)) base at result s.old s.new }
@@ -344,7 +305,7 @@ pub fn branch_if(s: &mut Scalars, base: u64, at: u64, condition: Condition, word
 }
 
 /// Branches where a register is zero, or is not.
-#[inline(always)]
+#[inline]
 pub fn branch_by(
     s: &mut Scalars,
     base: u64,
@@ -371,7 +332,7 @@ pub fn branch_by(
 }
 
 /// Branches where a bit is 0, or is 1.
-#[inline(always)]
+#[inline]
 pub fn branch_by_bit(
     s: &mut Scalars,
     base: u64,
@@ -398,7 +359,7 @@ pub fn branch_by_bit(
 }
 
 /// Branches to the address in a register.
-#[inline(always)]
+#[inline]
 pub fn branch_to(s: &mut Scalars, base: u64, at: u64, op: BranchRegisterOp, rn: u8) -> u64
     requires { IsInRow (insn.BranchRegister (record { op = op; rn = rn })) }
     ensures { Steps (insn.BranchRegister (record { op = op; rn = rn })) base at result s.old s.new }
@@ -407,70 +368,10 @@ pub fn branch_to(s: &mut Scalars, base: u64, at: u64, op: BranchRegisterOp, rn: 
 }
 
 /// Writes an address relative to PC.
-#[inline(always)]
+#[inline]
 pub fn write_address(s: &mut Scalars, base: u64, at: u64, op: PcRelativeOp, imm: i32, rd: u8) -> u64
     requires { IsInRow (insn.PcRelative (record { op = op; imm = imm; rd = rd })) }
     ensures { Steps (insn.PcRelative (record { op = op; imm = imm; rd = rd })) base at result s.old s.new }
 {
     step_pc_relative(s, &PcRelative { op, imm, rd }, base, at)
-}
-
-/// A load or store of one register at an offset.
-#[inline(always)]
-pub fn offset_access(op: LoadStoreOp, size: AccessSize, x: OffsetAccess) -> LoadStore
-    ensures { insn.LoadStore result ≡ offset_access op size x }
-{
-    LoadStore {
-        op,
-        size,
-        address: Address::Offset { imm: x.imm },
-        rn: x.rn,
-        rt: x.rt,
-    }
-}
-
-/// A load or store of one register.
-#[inline(always)]
-pub fn access_of(op: LoadStoreOp, size: AccessSize, x: Base, address: Address) -> LoadStore
-    ensures { insn.LoadStore result ≡ access_of op size x address }
-{
-    LoadStore {
-        op,
-        size,
-        address,
-        rn: x.rn,
-        rt: x.rt,
-    }
-}
-
-/// A load or store of two registers of 64 bits.
-#[inline(always)]
-pub fn pair_of(op: PairOp, index: PairIndex, x: Pair) -> LoadStorePair
-    ensures { insn.LoadStorePair result ≡ pair_of op index x }
-{
-    LoadStorePair {
-        op,
-        wide: true,
-        index,
-        offset: x.offset,
-        rn: x.rn,
-        rt: x.rt,
-        rt2: x.rt2,
-    }
-}
-
-/// The same, with what becomes of the base.
-#[inline(always)]
-pub fn pair_at(op: PairOp, x: IndexedPair) -> LoadStorePair
-    ensures { insn.LoadStorePair result ≡ pair_at op x }
-{
-    LoadStorePair {
-        op,
-        wide: true,
-        index: x.index,
-        offset: x.offset,
-        rn: x.rn,
-        rt: x.rt,
-        rt2: x.rt2,
-    }
 }

@@ -12,6 +12,7 @@ mod fields;
 mod flat;
 mod flat_of;
 mod forms;
+mod groups;
 mod logic;
 mod moves;
 mod multiply;
@@ -25,10 +26,10 @@ pub use branches::{address_at, branch_target};
 pub use exec::{Flow, exec_scalar};
 pub use flat::{Flat, exec_at, exec_next, flat_means};
 pub use flat_of::flatten;
-pub use forms::{access_of, offset_access, pair_at, pair_of};
+pub use groups::exec_group_at;
 pub use operands::{extend, extend_sign};
 pub use payloads::{
-    Base, BitFields, Comparison, Extended, Factors, Halfword, Immediate, IndexedPair, LeftShifted,
-    OffsetAccess, Pair, Registers, Selection, Shifted,
+    Base, BitFields, Extended, Factors, Halfword, Immediate, LeftShifted, OffsetAccess, Registers,
+    Selection, Shifted,
 };
 pub use registers::{next_address, read_x, read_x_or_sp, write_flags, write_x, write_x_or_sp};

@@ -1,5 +1,5 @@
 //! The fields of flat instructions.
-use sm_types::{Condition, Extend, PairIndex, ShiftKind};
+use sm_types::{Condition, Extend, ShiftKind};
 
 /// A register and an immediate of 12 bits.
 #[derive(Clone, Copy)]
@@ -72,15 +72,6 @@ pub struct Selection {
     pub rd: u8,
 }
 
-/// A register, a register or an immediate, and the flags where a condition fails.
-#[derive(Clone, Copy)]
-pub struct Comparison {
-    pub condition: Condition,
-    pub nzcv: u8,
-    pub operand: u8,
-    pub rn: u8,
-}
-
 /// Two factors, and what is added to their product or it is subtracted from.
 #[derive(Clone, Copy)]
 pub struct Factors {
@@ -103,23 +94,4 @@ pub struct OffsetAccess {
 pub struct Base {
     pub rn: u8,
     pub rt: u8,
-}
-
-/// Two registers in memory, at a signed offset.
-#[derive(Clone, Copy)]
-pub struct Pair {
-    pub rn: u8,
-    pub rt: u8,
-    pub rt2: u8,
-    pub offset: i32,
-}
-
-/// The same, with what becomes of the base.
-#[derive(Clone, Copy)]
-pub struct IndexedPair {
-    pub index: PairIndex,
-    pub rn: u8,
-    pub rt: u8,
-    pub rt2: u8,
-    pub offset: i32,
 }
