@@ -9,7 +9,7 @@ use Rattle.scalar_exec.specs.Step.{is_scalar}
 use Rattle.machine_step.specs.ProcessorState.{ProcessorState, vector_bytes}
 use Rattle.machine_step.specs.Effect.{Becomes, effect_of, accessed, vector_computed, is_first_fault}
 use Rattle.machine_step.specs.Needs.{uses_bank, needs_bank}
-use Rattle.machine_step.specs.Computed.{AreComputed, IsComputed, IsLoaded, IsComputedIn, IsVectored, is_computed_anywhere}
+use Rattle.machine_step.specs.Computed.{AreComputed, IsComputed, IsLoaded, IsComputedIn, IsVectored, is_computed_anywhere, is_plain_load}
 use Rattle.sm_types.specs.declared.length.VecLen.{VecLen}
 use Rattle.sm_types.specs.declared.vector.PredicateCount.TheVariants.{While, Active}
 use Rattle.sve_table.specs.Groups.{is_vector_group}
@@ -23,7 +23,6 @@ use Rattle.machine_step.specs.Machine.{core_of, IsInMode, IsSameBank, KeepsMode}
 use Rattle.machine_step.specs.declared.machine.Machine.{Machine}
 use Rattle.machine_step.specs.Several.{AreExecuted, halts_at, halts_in}
 use Rattle.machine_step.proofs.Answers.{effect_of_word, needs_of_word, scalar_effect, unneeded, private_effect, held_with, vector_core}
-use Rattle.scalar_exec.specs.Flat.{is_plain_load}
 use Rattle.scalar_exec.specs.Registers.{past}
 use Rattle.mem_access.specs.Transfer.{is_access, after_access}
 use Rattle.machine_step.specs.Execution.{unless_raised, effect_of_insn}
@@ -54,10 +53,14 @@ scalar_apart other streaming h = cc
 
 load_apart : (it : Insn) (streaming : Bool) → IsTrue (is_plain_load it) → uses_bank it streaming ≡ false
 load_apart (insn.LoadStore x) streaming h = refl
+load_apart (insn.LoadLiteral x) streaming h = refl
+load_apart (insn.LoadStorePair x) streaming h = refl
 load_apart other streaming h = cc
 
 load_access : (it : Insn) → IsTrue (is_plain_load it) → IsTrue (is_access it)
 load_access (insn.LoadStore x) h = refl
+load_access (insn.LoadLiteral x) h = refl
+load_access (insn.LoadStorePair x) h = refl
 load_access other h = cc
 
 -- what the instruction at PC becomes, and that it needs no bank

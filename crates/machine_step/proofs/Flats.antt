@@ -4,7 +4,9 @@ use Rattle.std.specs.Prelude.{MatchOption, IsTrue, Bool, cond}
 use Rattle.sm_types.specs.declared.insn.Insn.{Insn}
 use Rattle.sm_types.specs.declared.insn.Insn.TheVariants as insn
 use Rattle.sm_types.specs.declared.insn.LoadStore.{LoadStore}
-use Rattle.a64_table.specs.Ranges.{IsInRow, IsLoadStore}
+use Rattle.sm_types.specs.declared.insn.LoadStorePair.{LoadStorePair}
+use Rattle.sm_types.specs.declared.insn.LoadLiteral.{LoadLiteral}
+use Rattle.a64_table.specs.Ranges.{IsInRow, IsLoadStore, IsLoadStorePair, IsLoadLiteral}
 use Rattle.sve_table.specs.Groups.{is_vector_group}
 use Rattle.a64_encode.specs.Either.{instruction_of}
 use Rattle.scalar_exec.specs.Step.{is_scalar}
@@ -86,6 +88,14 @@ scalar_by_flat f it is h = is_scalar_by (is_scalar it) it (ap (λ (g : Flat). fl
 pub load_row : (word : ℕ) (x : LoadStore) → word < 2 ^ 32 → instruction_of word ≡ Some (insn.LoadStore x) → IsLoadStore x
 unfolding is_vector_group
 load_row word x lt is = scalar_row word (insn.LoadStore x) lt is refl
+
+pub pair_row : (word : ℕ) (x : LoadStorePair) → word < 2 ^ 32 → instruction_of word ≡ Some (insn.LoadStorePair x) → IsLoadStorePair x
+unfolding is_vector_group
+pair_row word x lt is = scalar_row word (insn.LoadStorePair x) lt is refl
+
+pub literal_row : (word : ℕ) (x : LoadLiteral) → word < 2 ^ 32 → instruction_of word ≡ Some (insn.LoadLiteral x) → IsLoadLiteral x
+unfolding is_vector_group
+literal_row word x lt is = scalar_row word (insn.LoadLiteral x) lt is refl
 
 -- accesses
 pub access_group : (it : Insn) → IsTrue (is_access it) → is_vector_group it ≡ false

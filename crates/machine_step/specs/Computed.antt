@@ -1,14 +1,15 @@
--- Instructions of a page of code that read and write registers alone, or load one, one after the other.
+-- Instructions of a page of code that read and write registers alone, or load some, one after the other.
 use Rattle.std.specs.Prelude.{◌≡◌, ℕ, zero, suc, ◌%◌, ◌⊎◌, ◌&&◌, Bool, true, false}
 use Rattle.std.specs.Prelude.{not, Option, Some, None, IsTrue, length}
 use Rattle.sm_types.specs.declared.insn.Insn.{Insn}
+use Rattle.sm_types.specs.declared.insn.Insn.TheVariants as insn
 use Rattle.sm_types.specs.declared.scalars.Scalars.{Scalars}
 use Rattle.scalar_exec.specs.Step.{is_scalar, scalar_step}
 use Rattle.paged_memory.specs.Memory.{AddressSpace, word_at}
 use Rattle.a64_encode.specs.Either.{instruction_of}
 use Rattle.scalar_exec.specs.Registers.{past}
-use Rattle.scalar_exec.specs.Flat.{is_plain_load}
 use Rattle.scalar_exec.specs.Apart.{at_distance}
+use Rattle.mem_access.specs.Access.{is_load, is_ldp}
 use Rattle.mem_access.specs.SharedAccess.{touched}
 use Rattle.mem_access.specs.Transfer.{transfer_fault, after_access}
 use Rattle.mem_access.specs.declared.bank.Bank.{Bank}
@@ -26,10 +27,19 @@ pub record IsComputed (word : ℕ) (old new : Scalars) : Type 0 where
   pub scalar : IsTrue (is_scalar it)
   pub is : new ≡ scalar_step it old
 
--- an answer: it is executed, or nothing has changed
-abbrev pub ComputesAt : ℕ → Scalars → Scalars → Bool → Type 0
-ComputesAt word old new true = IsComputed word old new
-ComputesAt word old new false = new ≡ old
+-- an answer, with PC at a distance from an address: it is executed, and so far is the next one; or nothing
+-- has changed
+abbrev pub ComputesTo : ℕ → ℕ → ℕ → Scalars → Option ℕ → Scalars → Type 0
+ComputesTo word base at old (Some next) new =
+    IsComputed word (at_distance base at old) (at_distance base next new)
+ComputesTo word base at old None new = new ≡ old
+
+-- a load of one register or two
+abbrev pub is_plain_load : Insn → Bool
+is_plain_load (insn.LoadStore x) = is_load x.op
+is_plain_load (insn.LoadLiteral x) = true
+is_plain_load (insn.LoadStorePair x) = is_ldp x.op
+is_plain_load other = false
 
 -- a load, of which no check fails and which makes no operation on a shared word, takes the registers from
 -- the one to the other and leaves memory
@@ -54,10 +64,6 @@ pub record IsLoaded (m : AddressSpace) (word : ℕ) (old new : Scalars) : Type 0
 abbrev pub LoadsAt : AddressSpace → ℕ → Scalars → Scalars → Bool → Type 0
 LoadsAt m word old new true = IsLoaded m word old new
 LoadsAt m word old new false = new ≡ old
-
-abbrev pub ActsAt : AddressSpace → ℕ → Scalars → Scalars → Bool → Type 0
-ActsAt m word old new true = IsComputed word old new ⊎ IsLoaded m word old new
-ActsAt m word old new false = new ≡ old
 
 -- an instruction that reads and writes scalar and vector registers alone, and that PSTATE.SM and PSTATE.ZA
 -- allow whatever they are: none of the first-fault register

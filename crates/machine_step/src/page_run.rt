@@ -1,5 +1,5 @@
 //! Instructions of one page of code that is held: those that are known, and that read and write registers
-//! alone or make one access.
+//! alone, load some or store some.
 ghost use Rattle.std.specs.Prelude.{◌≡◌, ◌&&◌, ◌%◌, ◌<◌, ◌≤◌, Bool, IsTrue, Some, false, true, length};
 ghost use Rattle.a64_encode.specs.Either.{instruction_of};
 ghost use Rattle.mem_access.specs.Transfer.{is_access};
@@ -49,7 +49,7 @@ fn is_word_place(at: u64) -> bool
 /// Executes instructions of the page from a base on, of which the code is all the bytes, one after the other,
 /// `most` at most, and tells how many, and what is known of the next one. It ends before one
 /// that lies elsewhere, that is not known, to halt before, or that does more than to read and write registers
-/// or to load one.
+/// or to load some.
 #[inline(always)]
 fn act_known<H: Halts>(
     s: &mut Scalars,
@@ -100,7 +100,7 @@ fn act_known<H: Halts>(
 
 impl Machine {
     /// Executes instructions of the page of PC that are known and read and write registers alone, or load
-    /// one, `most` at most, and tells how many, and what is known of the next one.
+    /// some, `most` at most, and tells how many, and what is known of the next one.
     #[inline(always)]
     fn run_page<H: Halts>(
         &mut self,
@@ -137,8 +137,8 @@ impl Machine {
         }
     }
 
-    /// The same with the loads and stores of one and two registers that are made at once: after each the page
-    /// is looked up again, since a store may write to it.
+    /// The same with the stores of one and two registers that are made at once: after each the page is looked up
+    /// again, since a store may write to it.
     #[inline(always)]
     pub(crate) fn run_known<H: Halts>(
         &mut self,
@@ -177,8 +177,8 @@ impl Machine {
         (done, Next::Unknown)
     }
 
-    /// Makes the access of the instruction at PC at once, if it is a load or a store of one or two registers;
-    /// it is the kept one.
+    /// Makes the access of the instruction at PC at once, if it is a store of one or two registers; it is the kept
+    /// one.
     #[inline(always)]
     fn store_known(&mut self, known: &Decoded) -> Attempt
         requires aligned { self.old.scalars.pc % 4 ≡ 0 }
@@ -189,45 +189,132 @@ impl Machine {
         ensures owned { KeepsOwned self.old.pages self.new.pages }
         ensures mode { KeepsMode self.old self.new }
     {
+        match known.flat() {
+            Flat::StoreDoubleword(_) | Flat::StoreDoublewordAt(_, _) => self.store_doubleword(
+                known,
+            ),
+            Flat::StoreWord(_) | Flat::StoreWordAt(_, _) => self.store_word(known),
+            Flat::StoreHalfword(_) | Flat::StoreHalfwordAt(_, _) => self.store_halfword(known),
+            Flat::StoreByte(_) | Flat::StoreByteAt(_, _) => self.store_byte(known),
+            Flat::Store => self.store_other(known),
+            _ => Attempt::Waits,
+        }
+    }
+
+    /// Makes the store of a doubleword by a call in which that is constant.
+    #[inline(never)]
+    fn store_doubleword(&mut self, known: &Decoded) -> Attempt
+        requires aligned { self.old.scalars.pc % 4 ≡ 0 }
+        requires fetched { word_at self.old.pages.memory self.old.scalars.pc ≡ Some known.now.word }
+        ensures effect { (bank : Bank) → AttemptsOn effect_of self.old bank self.new bank result }
+        ensures kept { result ≡ Attempt.Done → (apart : Bool) (bank : VectorState)
+            → (apart && needs_bank (core_of self.old bank)) ≡ false }
+        ensures owned { KeepsOwned self.old.pages self.new.pages }
+        ensures mode { KeepsMode self.old self.new }
+    {
         let word = known.word();
+        let size = AccessSize::Doubleword;
         match known.flat() {
             Flat::StoreDoubleword(x) => {
                 let address = Address::Offset { imm: x.imm };
-                self.access_known(word, &store_by(AccessSize::Doubleword, address, x.rn, x.rt))
-            }
-            Flat::StoreWord(x) => {
-                let address = Address::Offset { imm: x.imm };
-                self.access_known(word, &store_by(AccessSize::Word, address, x.rn, x.rt))
-            }
-            Flat::StoreHalfword(x) => {
-                let address = Address::Offset { imm: x.imm };
-                self.access_known(word, &store_by(AccessSize::Halfword, address, x.rn, x.rt))
-            }
-            Flat::StoreByte(x) => {
-                let address = Address::Offset { imm: x.imm };
-                self.access_known(word, &store_by(AccessSize::Byte, address, x.rn, x.rt))
-            }
-            Flat::StoreDoublewordAt(x, Address::PostIndex { offset }) => {
-                let address = Address::PostIndex { offset };
-                self.access_known(word, &store_by(AccessSize::Doubleword, address, x.rn, x.rt))
+                self.access_known(word, &store_by(size, address, x.rn, x.rt))
             }
             Flat::StoreDoublewordAt(x, address) => {
-                self.access_known(word, &store_by(AccessSize::Doubleword, address, x.rn, x.rt))
+                self.access_known(word, &store_by(size, address, x.rn, x.rt))
+            }
+            _ => Attempt::Waits,
+        }
+    }
+
+    /// Makes the store of a word by a call in which that is constant.
+    #[inline(never)]
+    fn store_word(&mut self, known: &Decoded) -> Attempt
+        requires aligned { self.old.scalars.pc % 4 ≡ 0 }
+        requires fetched { word_at self.old.pages.memory self.old.scalars.pc ≡ Some known.now.word }
+        ensures effect { (bank : Bank) → AttemptsOn effect_of self.old bank self.new bank result }
+        ensures kept { result ≡ Attempt.Done → (apart : Bool) (bank : VectorState)
+            → (apart && needs_bank (core_of self.old bank)) ≡ false }
+        ensures owned { KeepsOwned self.old.pages self.new.pages }
+        ensures mode { KeepsMode self.old self.new }
+    {
+        let word = known.word();
+        let size = AccessSize::Word;
+        match known.flat() {
+            Flat::StoreWord(x) => {
+                let address = Address::Offset { imm: x.imm };
+                self.access_known(word, &store_by(size, address, x.rn, x.rt))
             }
             Flat::StoreWordAt(x, address) => {
-                self.access_known(word, &store_by(AccessSize::Word, address, x.rn, x.rt))
+                self.access_known(word, &store_by(size, address, x.rn, x.rt))
+            }
+            _ => Attempt::Waits,
+        }
+    }
+
+    /// Makes the store of a halfword by a call in which that is constant.
+    #[inline(never)]
+    fn store_halfword(&mut self, known: &Decoded) -> Attempt
+        requires aligned { self.old.scalars.pc % 4 ≡ 0 }
+        requires fetched { word_at self.old.pages.memory self.old.scalars.pc ≡ Some known.now.word }
+        ensures effect { (bank : Bank) → AttemptsOn effect_of self.old bank self.new bank result }
+        ensures kept { result ≡ Attempt.Done → (apart : Bool) (bank : VectorState)
+            → (apart && needs_bank (core_of self.old bank)) ≡ false }
+        ensures owned { KeepsOwned self.old.pages self.new.pages }
+        ensures mode { KeepsMode self.old self.new }
+    {
+        let word = known.word();
+        let size = AccessSize::Halfword;
+        match known.flat() {
+            Flat::StoreHalfword(x) => {
+                let address = Address::Offset { imm: x.imm };
+                self.access_known(word, &store_by(size, address, x.rn, x.rt))
             }
             Flat::StoreHalfwordAt(x, address) => {
-                self.access_known(word, &store_by(AccessSize::Halfword, address, x.rn, x.rt))
+                self.access_known(word, &store_by(size, address, x.rn, x.rt))
+            }
+            _ => Attempt::Waits,
+        }
+    }
+
+    /// Makes the store of a byte by a call in which that is constant.
+    #[inline(never)]
+    fn store_byte(&mut self, known: &Decoded) -> Attempt
+        requires aligned { self.old.scalars.pc % 4 ≡ 0 }
+        requires fetched { word_at self.old.pages.memory self.old.scalars.pc ≡ Some known.now.word }
+        ensures effect { (bank : Bank) → AttemptsOn effect_of self.old bank self.new bank result }
+        ensures kept { result ≡ Attempt.Done → (apart : Bool) (bank : VectorState)
+            → (apart && needs_bank (core_of self.old bank)) ≡ false }
+        ensures owned { KeepsOwned self.old.pages self.new.pages }
+        ensures mode { KeepsMode self.old self.new }
+    {
+        let word = known.word();
+        let size = AccessSize::Byte;
+        match known.flat() {
+            Flat::StoreByte(x) => {
+                let address = Address::Offset { imm: x.imm };
+                self.access_known(word, &store_by(size, address, x.rn, x.rt))
             }
             Flat::StoreByteAt(x, address) => {
-                self.access_known(word, &store_by(AccessSize::Byte, address, x.rn, x.rt))
+                self.access_known(word, &store_by(size, address, x.rn, x.rt))
             }
-            _ => match known.insn() {
-                Insn::LoadStore(_) => self.access_by_call(word, known.insn()),
-                Insn::LoadStorePair(_) => self.access_by_call(word, known.insn()),
-                _ => Attempt::Waits,
-            },
+            _ => Attempt::Waits,
+        }
+    }
+
+    /// Makes the store of two registers by a call.
+    #[inline(never)]
+    fn store_other(&mut self, known: &Decoded) -> Attempt
+        requires aligned { self.old.scalars.pc % 4 ≡ 0 }
+        requires fetched { word_at self.old.pages.memory self.old.scalars.pc ≡ Some known.now.word }
+        ensures effect { (bank : Bank) → AttemptsOn effect_of self.old bank self.new bank result }
+        ensures kept { result ≡ Attempt.Done → (apart : Bool) (bank : VectorState)
+            → (apart && needs_bank (core_of self.old bank)) ≡ false }
+        ensures owned { KeepsOwned self.old.pages self.new.pages }
+        ensures mode { KeepsMode self.old self.new }
+    {
+        match known.insn() {
+            Insn::LoadStorePair(_) => self.access_known(known.word(), known.insn()),
+            _ => Attempt::Waits,
         }
     }
 
@@ -245,22 +332,6 @@ impl Machine {
         ensures mode { KeepsMode self.old self.new }
     {
         self.access_at_once(insn)
-    }
-
-    /// The same by a call.
-    #[inline(never)]
-    fn access_by_call(&mut self, word: u32, insn: &Insn) -> Attempt
-        requires access { IsTrue (is_access insn.now) }
-        requires means { instruction_of word ≡ Some insn.now }
-        requires aligned { self.old.scalars.pc % 4 ≡ 0 }
-        requires fetched { word_at self.old.pages.memory self.old.scalars.pc ≡ Some word }
-        ensures effect { (bank : Bank) → AttemptsOn effect_of self.old bank self.new bank result }
-        ensures kept { (apart : Bool) (bank : VectorState)
-            → (apart && needs_bank (core_of self.old bank)) ≡ false }
-        ensures owned { KeepsOwned self.old.pages self.new.pages }
-        ensures mode { KeepsMode self.old self.new }
-    {
-        self.access_known(word, insn)
     }
 }
 

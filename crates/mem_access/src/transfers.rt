@@ -86,14 +86,15 @@ fn transfer_load_store(x: &LoadStore, s: &mut Scalars, pages: &mut Pages) -> Res
     }
 }
 
-/// A load of one register, which changes no page.
+/// A load of one register, which changes no page and needs no memory.
 #[inline(always)]
 pub fn load_one(x: &LoadStore, s: &mut Scalars, pages: &Pages) -> Result<(), AccessStop>
     requires fields { IsLoadStore x.now }
     requires load { IsTrue (is_load x.now.op) }
-    ensures { Transfers (transfer_fault (Insn.LoadStore x.now) s.old pages.now.memory)
+    ensures made { Transfers (transfer_fault (Insn.LoadStore x.now) s.old pages.now.memory)
         (after_access (Insn.LoadStore x.now) s.old pages.now.memory)
         (contents_of s.old pages.now) (contents_of s.new pages.now) result }
+    ensures room { result ≢ Err AccessStop.Memory }
 {
     let access = load_store_access(x, s);
     match place_fault(&access, s) {
@@ -196,7 +197,7 @@ fn load_registers(
 }
 
 /// A load or store of two registers.
-#[inline(always)]
+#[inline(never)]
 fn transfer_pair(x: &LoadStorePair, s: &mut Scalars, pages: &mut Pages) -> Result<(), AccessStop>
     requires { IsLoadStorePair x.now }
     ensures made { Transfers (run_fault (pair_access x.now s.old) s.old pages.old.memory)
@@ -216,20 +217,33 @@ fn transfer_pair(x: &LoadStorePair, s: &mut Scalars, pages: &mut Pages) -> Resul
     }
 }
 
-/// A load of two registers, which changes no page.
+/// A load of two registers, which changes no page and needs no memory.
 #[inline(always)]
 pub fn load_pair(x: &LoadStorePair, s: &mut Scalars, pages: &Pages) -> Result<(), AccessStop>
     requires fields { IsLoadStorePair x.now }
     requires load { x.now.op ≡ PairOp.Ldp }
-    ensures { Transfers (transfer_fault (Insn.LoadStorePair x.now) s.old pages.now.memory)
+    ensures made { Transfers (transfer_fault (Insn.LoadStorePair x.now) s.old pages.now.memory)
         (after_access (Insn.LoadStorePair x.now) s.old pages.now.memory)
         (contents_of s.old pages.now) (contents_of s.new pages.now) result }
+    ensures room { result ≢ Err AccessStop.Memory }
 {
     let access = pair_access(x, s);
     match place_fault(&access, s) {
         Some(exception) => Err(AccessStop::Raise(exception)),
         None => load_registers(x, access.address, s, pages),
     }
+}
+
+/// A load from beside the program counter, which changes no page and needs no memory.
+#[inline(always)]
+pub fn load_beside(x: &LoadLiteral, s: &mut Scalars, pages: &Pages) -> Result<(), AccessStop>
+    requires { IsLoadLiteral x.now }
+    ensures made { Transfers (transfer_fault (Insn.LoadLiteral x.now) s.old pages.now.memory)
+        (after_access (Insn.LoadLiteral x.now) s.old pages.now.memory)
+        (contents_of s.old pages.now) (contents_of s.new pages.now) result }
+    ensures room { result ≢ Err AccessStop.Memory }
+{
+    transfer_load_literal(x, s, pages)
 }
 
 /// The instructions of this crate, as accesses to consecutive bytes.
@@ -270,34 +284,4 @@ pub fn transfer(insn: &Insn, scalars: &mut Scalars, pages: &mut Pages) -> Result
     ensures kept { KeepsOwned pages.old pages.new }
 {
     transfer_run(insn, scalars, pages)
-}
-
-/// A store of one register, or a load, inlined, so that what is constant of it is tested in advance.
-#[inline(always)]
-pub fn store_one(x: &LoadStore, s: &mut Scalars, pages: &mut Pages) -> Result<(), AccessStop>
-    requires { IsLoadStore x.now }
-    ensures made { Transfers (transfer_fault (Insn.LoadStore x.now) s.old pages.old.memory)
-        (after_access (Insn.LoadStore x.now) s.old pages.old.memory)
-        (contents_of s.old pages.old) (contents_of s.new pages.new) result }
-    ensures room { HasRoomFor (Insn.LoadStore x.now) s.old pages.old → result ≢ Err AccessStop.Memory }
-    ensures owned { Owns raised_by (writes_of (Insn.LoadStore x.now) s.old pages.old.memory)
-        pages.old pages.new result }
-    ensures kept { KeepsOwned pages.old pages.new }
-{
-    transfer(&Insn::LoadStore(*x), s, pages)
-}
-
-/// A store of two registers, or a load, inlined too.
-#[inline(always)]
-pub fn store_pair(x: &LoadStorePair, s: &mut Scalars, pages: &mut Pages) -> Result<(), AccessStop>
-    requires { IsLoadStorePair x.now }
-    ensures made { Transfers (transfer_fault (Insn.LoadStorePair x.now) s.old pages.old.memory)
-        (after_access (Insn.LoadStorePair x.now) s.old pages.old.memory)
-        (contents_of s.old pages.old) (contents_of s.new pages.new) result }
-    ensures room { HasRoomFor (Insn.LoadStorePair x.now) s.old pages.old → result ≢ Err AccessStop.Memory }
-    ensures owned { Owns raised_by (writes_of (Insn.LoadStorePair x.now) s.old pages.old.memory)
-        pages.old pages.new result }
-    ensures kept { KeepsOwned pages.old pages.new }
-{
-    transfer(&Insn::LoadStorePair(*x), s, pages)
 }

@@ -9,10 +9,10 @@ use crate::payloads::{
 };
 use sm_types::{
     AccessSize, AddSub, AddSubExtended, AddSubImmediate, AddSubRegister, Address, BitfieldMove,
-    BitfieldOp, Branch, BranchRegister, BranchRegisterOp, ConditionalSelect, ExtendedRegister,
-    Insn, LoadStore, LoadStoreOp, LoadStorePair, Logical, LogicalImmediate, LogicalRegister,
-    MoveOp, MoveWide, Multiply, PairOp, PcRelative, PcRelativeOp, SelectOp, ShiftKind,
-    ShiftedRegister, TwoSource, TwoSourceOp,
+    BitfieldOp, Branch, BranchRegister, BranchRegisterOp, Condition, ConditionalSelect,
+    ExtendedRegister, Insn, LoadStore, LoadStoreOp, LoadStorePair, Logical, LogicalImmediate,
+    LogicalRegister, MoveOp, MoveWide, Multiply, PairOp, PcRelative, PcRelativeOp, SelectOp,
+    ShiftKind, ShiftedRegister, TwoSource, TwoSourceOp,
 };
 
 /// A sum with an immediate.

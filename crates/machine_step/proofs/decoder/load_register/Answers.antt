@@ -10,7 +10,7 @@ pub returns-in-Ok : goal.returns-in-Ok
 unfolding past
 returns-in-Ok c =
     let it = insn.LoadStore c.args.x.now in
-    let e = c.in-Ok.ensures in
+    let e = c.in-Ok.ensures.made in
     let s : Scalars = c.load_one.new.s in
     record {
       private = no_operation it c.args.s.now c.args.pages.now.memory c.touched_is_shared.ensures e.0;

@@ -15,8 +15,8 @@ stores_not Load h = refl
 stores_not LoadSignedTo64 h = refl
 stores_not LoadSignedTo32 h = refl
 
-pub returns-in-Some : goal.returns-in-Some
-returns-in-Some c =
+pub returns-in-Some-clause-made : goal.returns-in-Some-clause-made
+returns-in-Some-clause-made c =
     let it = insn.LoadStore c.args.x.now in (
       transfer_fault-is it c.args.s.now c.args.pages.now.memory
           ∙ raised (load_store_access c.args.x.now c.args.s.now) _ c.args.s.now c.args.pages.now.memory _
@@ -24,9 +24,9 @@ returns-in-Some c =
       refl,
     )
 
-pub returns-in-None : goal.returns-in-None
+pub returns-in-None-clause-made : goal.returns-in-None-clause-made
 unfolding load_store_access
-returns-in-None c =
+returns-in-None-clause-made c =
     let x = c.args.x.now in
     let it = insn.LoadStore x in
     transfers_as _ _ _ _ _ _ c.load.result (transfer_fault-is it c.args.s.now c.args.pages.now.memory)

@@ -7,8 +7,8 @@ use Rattle.mem_access.proofs.Faults.{raised, made_reading, made_as, transfers_as
 use Rattle.mem_access.proofs.Lists.{transfer_fault-is, after_access-is}
 use Rattle.mem_access.proofs.transfers.load_pair.Goals as goal
 
-pub returns-in-Some : goal.returns-in-Some
-returns-in-Some c =
+pub returns-in-Some-clause-made : goal.returns-in-Some-clause-made
+returns-in-Some-clause-made c =
     let it = insn.LoadStorePair c.args.x.now in (
       transfer_fault-is it c.args.s.now c.args.pages.now.memory
           ∙ raised (pair_access c.args.x.now c.args.s.now) _ c.args.s.now c.args.pages.now.memory _
@@ -16,9 +16,9 @@ returns-in-Some c =
       refl,
     )
 
-pub returns-in-None : goal.returns-in-None
+pub returns-in-None-clause-made : goal.returns-in-None-clause-made
 unfolding pair_access
-returns-in-None c =
+returns-in-None-clause-made c =
     let x = c.args.x.now in
     let s = c.args.s.now in
     let m = c.args.pages.now.memory in
