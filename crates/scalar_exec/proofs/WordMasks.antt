@@ -1,15 +1,11 @@
 -- Masks whose elements are as long as the word: a run of ones, rotated.
-use Rattle.std.proofs.Common.{◌≡◌, ℕ, ◌+◌, ◌-◌, ◌*◌, ◌%◌, ◌^◌, ◌<◌, Bool, true, false, not, sym, ap, ◌∙◌, subst, arith}
+use Rattle.std.proofs.Common.{◌≡◌, ℕ, ◌+◌, ◌-◌, ◌*◌, ◌%◌, ◌^◌, ◌<◌, Bool, true, false, sym, ap, ◌∙◌, subst, arith}
 use Rattle.std.proofs.Common.{mod-eq_of_lt}
-use Rattle.std.proofs.lemmas.Bool.{and_parts, or_parts, ltb-true, eqb-false}
+use Rattle.std.proofs.lemmas.Bool.{and_parts, or_parts, ltb-true, eqb-false, not-true}
 use Rattle.std.proofs.lemmas.Nat.{mod_below}
 use Rattle.std.specs.Int.{rotate_right, w64}
 use Rattle.bit_ops.specs.Masks.{length_of, size_of, mask_of, are_mask_fields, is_reserved}
 use Rattle.bit_ops.proofs.MaskBits.{highest_one-is, first_run, next_run, IsRun, mask-is}
-
-not_true : (b : Bool) → not b ≡ true → b ≡ false
-not_true true e = cc
-not_true false e = cc
 
 -- the length of an element of 64 bits, and of one of 32
 pub length_long : (imms : ℕ) → length_of true imms ≡ 6
@@ -30,7 +26,7 @@ pub ones_below : (n wide : Bool) (imms immr length : ℕ) → length_of n imms �
 unfolding are_mask_fields is_reserved
 ones_below n wide imms immr length e lt h =
     let both = and_parts _ _ h in
-    let free = or_parts _ _ (not_true (is_reserved n imms wide) both.0) in
+    let free = or_parts _ _ (not-true (is_reserved n imms wide) both.0) in
     let apart = eqb-false _ _ free.1 in
     let same : imms % 2 ^ length ≡ imms = mod-eq_of_lt lt in
     let size : size_of n imms ≡ 2 ^ length = ap (λ k. 2 ^ k) e in
