@@ -1,6 +1,7 @@
 -- From what is shown at a count to a later one, and to the end of a run.
 use Rattle.std.proofs.Common.{◌≡◌, ℕ, ◌<◌, ◌≤◌, List, refl, ap, sym, ◌∙◌, arith}
 use Rattle.std.proofs.Common.{Some, None}
+use Rattle.std.proofs.lemmas.Option.{none-some}
 use Rattle.sm_types.specs.declared.config.Config.{Config}
 use Rattle.sm_types.specs.declared.shared_op.Event.{Event}
 use Rattle.paged_memory.specs.Image.{Program}
@@ -9,14 +10,14 @@ use Rattle.kernel_contexts.specs.Run.{Reached, At, Ended, Strays, reach}
 use Rattle.lone_runner.specs.Parting.{parting_at, state_at, unanswered}
 use Rattle.lone_runner.specs.declared.fault.AloneFault.{AloneFault}
 use Rattle.lone_runner.specs.declared.fault.AloneFault.TheVariants.{EndsEarly}
-use Rattle.lone_runner.proofs.Partings.{count_later, stays_so, not_some}
+use Rattle.lone_runner.proofs.Partings.{count_later, stays_so}
 use Rattle.lone_runner.proofs.Shown.{none_yet, early}
 
 -- a way of parting before a count is one from each later count
 pub parts_later : (n last : ℕ) (fault : AloneFault) (r : Reached) → n ≤ last → parting_at n r ≡ Some fault → (state_at r).count < n
     → parting_at last r ≡ Some fault
 parts_later n last fault (At s used left) within parts less =
-    absurd (not_some fault (sym (none_yet n s used left (omega (arith, less))) ∙ parts))
+    absurd (none-some fault (sym (none_yet n s used left (omega (arith, less))) ∙ parts))
 parts_later n last fault (Ended s stop used left) within parts less =
     early last s stop used left (omega (arith, less, within)) ∙ sym (early n s stop used left less) ∙ parts
 parts_later n last fault (Strays s used left) within parts less = parts
@@ -25,8 +26,8 @@ parts_later n last fault (Strays s used left) within parts less = parts
 pub none_later : (n last : ℕ) (r : Reached) → n ≤ last → parting_at n r ≡ None → (state_at r).count < n → parting_at last r ≡ None
 none_later n last (At s used left) within none less = none_yet last s used left (omega (arith, less, within))
 none_later n last (Ended s stop used left) within none less =
-    absurd (not_some (EndsEarly s.count stop) (sym none ∙ early n s stop used left less))
-none_later n last (Strays s used left) within none less = absurd (not_some (unanswered s used left) (sym none))
+    absurd (none-some (EndsEarly s.count stop) (sym none ∙ early n s stop used left less))
+none_later n last (Strays s used left) within none less = absurd (none-some (unanswered s used left) (sym none))
 
 module _ (program : Program) (config : Config) (thread : ℕ) (journal : List Event) where
   abbrev counted_at : ℕ → ℕ

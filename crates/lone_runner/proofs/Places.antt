@@ -1,10 +1,12 @@
 -- Places that follow one another by turns, and where they part from their events and a count: at one place at
 -- most, and nowhere exactly where they end there.
-use Rattle.std.proofs.Common.{◌⊎◌, inl, inr, ◌≡◌, Bool, true, false, cond, ℕ, zero, suc, ◌+◌, ◌<◌, ◌≤◌, List, [], ◌∷◌, refl, ap, sym}
+use Rattle.std.proofs.Common.{inl, inr, ◌≡◌, Bool, true, false, cond, ℕ, zero, suc, ◌+◌, ◌<◌, ◌≤◌, List, [], ◌∷◌, refl, ap, sym}
 use Rattle.std.proofs.Common.{◌∙◌, arith, subst, Option, Some, None}
 use Rattle.std.specs.Prelude.{nat_lt, ◌-◌}
 use Rattle.std.proofs.lemmas.Bool.{cond_both, cases_Bool}
 use Rattle.std.proofs.lemmas.Bool.Decides.{nat_tests}
+use Rattle.std.proofs.lemmas.Option.{same_Some, none-some}
+use Rattle.plain_lemmas.proofs.Numbers.{cases_lt_eq_gt}
 use Rattle.sm_types.specs.SharedOps.{is_same_op}
 use Rattle.sm_types.specs.declared.config.Config.{Config}
 use Rattle.sm_types.specs.declared.shared_op.Event.{Event}
@@ -18,35 +20,17 @@ use Rattle.lone_runner.specs.declared.fault.AloneFault.{AloneFault}
 use Rattle.lone_runner.specs.declared.fault.AloneFault.TheVariants.{EndsEarly, GoesOn}
 use Rattle.lone_runner.proofs.Counted.{IsCounted, Counts, turn_counted}
 
--- ---- numbers of turns
-
-pub compared : (m n : ℕ) → (m < n) ⊎ ((m ≡ n) ⊎ (n < m))
-compared zero zero = inr (inl refl)
-compared zero (suc n) = inl (omega arith)
-compared (suc m) zero = inr (inr (omega arith))
-compared (suc m) (suc n) = elim (compared m n) [
-  | inl less ↦ inl (omega (arith, less))
-  | inr (inl same) ↦ inr (inl (ap (λ k. suc k) same))
-  | inr (inr more) ↦ inr (inr (omega (arith, more)))
-]
-
-pub not_some : (fault : AloneFault) → ◌≡◌ {A = Option AloneFault} None (Some fault) → ⊥
-not_some fault e = cc
-
-pub same_fault : (f g : AloneFault) → ◌≡◌ {A = Option AloneFault} (Some f) (Some g) → f ≡ g
-same_fault f g e = cc
-
 -- ---- an end that does not part
 
 both_false : (a b : Bool) (x y : AloneFault) (o : Option AloneFault) → cond a (Some x) (cond b (Some y) o) ≡ None
     → (a ≡ false) × (b ≡ false) × (o ≡ None)
-both_false true b x y o e = absurd (not_some x (sym e))
-both_false false true x y o e = absurd (not_some y (sym e))
+both_false true b x y o e = absurd (none-some x (sym e))
+both_false false true x y o e = absurd (none-some y (sym e))
 both_false false false x y o e = (refl, refl, e)
 
 none_left : (left : List Event) → left_over left ≡ None → left ≡ []
 none_left [] e = refl
-none_left (event ∷ left) e = absurd (not_some _ (sym e))
+none_left (event ∷ left) e = absurd (none-some _ (sym e))
 
 pub ends_well : (count : ℕ) (s : State) (stop : Stop) (used : ℕ) (left : List Event) → parting_at count (Ended s stop used left) ≡ None
     → (s.count ≡ count) × (left ≡ [])
@@ -62,7 +46,7 @@ pub passed : (count : ℕ) (s : State) (used : ℕ) (left : List Event) (fault :
 passed count s used left fault parts = elim (cases_Bool (nat_lt count s.count)) [
   | inl more ↦ grind (arith, nat_tests)
   | inr less ↦
-      absurd (not_some fault (sym (ap (λ b. cond b (Some (GoesOn count)) None) less) ∙ parts))
+      absurd (none-some fault (sym (ap (λ b. cond b (Some (GoesOn count)) None) less) ∙ parts))
 ]
 
 -- ---- places that follow one another
@@ -127,10 +111,10 @@ module _ (config : Config) (thread : ℕ) (at : ℕ → Reached) (step : (n : �
     IsFirst n fault = (parts_at n ≡ Some fault) × ((m : ℕ) → m < n → parts_at m ≡ None)
 
     pub one_first : (m n : ℕ) (f g : AloneFault) → IsFirst m f → IsFirst n g → f ≡ g
-    one_first m n f g h k = elim (compared m n) [
-      | inl less ↦ absurd (not_some f (sym (k.1 m less) ∙ h.0))
-      | inr (inl same) ↦ same_fault f g (sym h.0 ∙ ap parts_at same ∙ k.0)
-      | inr (inr more) ↦ absurd (not_some g (sym (h.1 n more) ∙ k.0))
+    one_first m n f g h k = elim (cases_lt_eq_gt m n) [
+      | inl less ↦ absurd (none-some f (sym (k.1 m less) ∙ h.0))
+      | inr (inl same) ↦ same_Some f g (sym h.0 ∙ ap parts_at same ∙ k.0)
+      | inr (inr more) ↦ absurd (none-some g (sym (h.1 n more) ∙ k.0))
     ]
 
     none_or : (o : Option AloneFault) → ((fault : AloneFault) → o ≡ Some fault → ⊥) → o ≡ None
@@ -139,7 +123,7 @@ module _ (config : Config) (thread : ℕ) (at : ℕ → Reached) (step : (n : �
 
     never : ((n : ℕ) (fault : AloneFault) → IsFirst n fault → ⊥) → (n m : ℕ) → m < n → parts_at m ≡ None
     never none zero m less = absurd (omega (arith, less))
-    never none (suc n) m less = elim (compared m n) [
+    never none (suc n) m less = elim (cases_lt_eq_gt m n) [
       | inl below ↦ never none n m below
       | inr (inl same) ↦
           ap parts_at same ∙ none_or (parts_at n) (λ fault parts. none n fault (parts, never none n))
@@ -166,17 +150,17 @@ module _ (config : Config) (thread : ℕ) (at : ℕ → Reached) (step : (n : �
             let over = passed count s u left fault parts in omega (arith, more, here, there, over, counts)
         parts_before fault m (Ended s p u left) l is parts =
             let last = stays_at (Ended s p u left) refl m end l is in
-            not_some fault (sym (good_end state stop used counts) ∙ ap (parting_at count) (sym ends ∙ last) ∙ parts)
+            none-some fault (sym (good_end state stop used counts) ∙ ap (parting_at count) (sym ends ∙ last) ∙ parts)
         parts_before fault m (Strays s u left) l is parts =
             let last = stays_at (Strays s u left) refl m end l is in not_both s state stop u used left (sym last ∙ ends)
 
         parts_after : (fault : AloneFault) (m : ℕ) → end ≤ m → parts_at m ≡ Some fault → ⊥
         parts_after fault m l parts =
             let last = stays_at (Ended state stop used []) refl end m l ends in
-            not_some fault (sym (good_end state stop used counts) ∙ ap (parting_at count) (sym last) ∙ parts)
+            none-some fault (sym (good_end state stop used counts) ∙ ap (parting_at count) (sym last) ∙ parts)
 
         pub no_first : (n : ℕ) (fault : AloneFault) → IsFirst n fault → ⊥
-        no_first n fault h = elim (compared n end) [
+        no_first n fault h = elim (cases_lt_eq_gt n end) [
           | inl less ↦ parts_before fault n (at n) (omega (arith, less)) refl h.0
           | inr (inl same) ↦ parts_after fault n (omega (arith, same)) h.0
           | inr (inr more) ↦ parts_after fault n (omega (arith, more)) h.0
@@ -206,7 +190,7 @@ module _ (config : Config) (thread : ℕ) (at : ℕ → Reached) (step : (n : �
             ends = is ∙ ap (λ (l : List Event). Ended s stop used l) end.1;
             counts = end.0;
           }
-      ends_by (Strays s used left) n late is none = absurd (not_some (unanswered s used left) (sym none))
+      ends_by (Strays s used left) n late is none = absurd (none-some (unanswered s used left) (sym none))
 
       pub ends_unless_first : ((n : ℕ) (fault : AloneFault) → IsFirst n fault → ⊥) → EndsWell
       ends_unless_first none = ends_by (at (suc most)) (suc most) (omega arith) refl (never none (suc (suc most)) (suc most) (omega arith))

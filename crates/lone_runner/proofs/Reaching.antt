@@ -1,5 +1,6 @@
 -- A thread that comes from a state that no run vouches for to a count of instructions.
 use Rattle.std.proofs.Common.{◌≡◌, ℕ, zero, suc, ◌+◌, ◌-◌, ◌<◌, ◌≤◌, List, Some, None, inl, inr, refl, ap, sym, ◌∙◌, arith}
+use Rattle.plain_lemmas.proofs.Numbers.{cases_lt_eq_gt}
 use Rattle.sm_types.specs.declared.shared_op.Event.{Event}
 use Rattle.sm_types.specs.declared.stop.Stop.{Stop}
 use Rattle.shared_region.specs.Ports.{ReplayEvents}
@@ -11,7 +12,7 @@ use Rattle.lone_runner.specs.Parting.{parting_at, state_at}
 use Rattle.lone_runner.specs.Resumed.{IsComing, IsReached, IsLooseAstray, IsPartingFromAll, resumed_at, loose_place, loose_next}
 use Rattle.lone_runner.specs.declared.fault.AloneFault.{AloneFault}
 use Rattle.lone_runner.specs.declared.fault.AloneFault.TheVariants.{EndsEarly}
-use Rattle.lone_runner.proofs.Places.{compared, counts_next}
+use Rattle.lone_runner.proofs.Places.{counts_next}
 use Rattle.lone_runner.proofs.Shown.{none_yet, early}
 use Rattle.lone_runner.proofs.Later.{parts_later, none_later}
 use Rattle.lone_runner.proofs.Resumes.{resume_begins, resume_on, resume_goes_on, place_resumed}
@@ -67,7 +68,7 @@ module _ (from : Loose) (events : List Event) (count : ℕ) where
 
     -- all turns so far were before the count
     so_far : (m : ℕ) → m < suc h.way.turns → counted_at m < count
-    so_far m l = elim (compared m h.way.turns) [
+    so_far m l = elim (cases_lt_eq_gt m h.way.turns) [
       | inl earlier ↦ h.below m earlier
       | inr (inl now) ↦ let same_count = ap counted_at now in omega (arith, same_count, here, less)
       | inr (inr later) ↦ absurd (omega (arith, l, later))
@@ -131,7 +132,7 @@ module _ (from : Loose) (events : List Event) (count : ℕ) where
       let now : counted_at h.way.turns ≡ (loose_state old).count = ap (λ (r : Reached). (state_at r).count) h.way.at in
       record {
         way = resume_goes_on from events count old new ticket n same goes quiet most h.way;
-        below = λ m l. elim (compared m h.way.turns) [
+        below = λ m l. elim (cases_lt_eq_gt m h.way.turns) [
           | inl less ↦ h.below m less
           | inr (inl this) ↦ let is = ap counted_at this in omega (arith, is, now, l, this, counted, most)
           | inr (inr later) ↦

@@ -1,5 +1,7 @@
 -- The rest of a run is the rest of it.
-use Rattle.std.proofs.Common.{◌≡◌, ◌⊎◌, inl, inr, ℕ, zero, suc, ◌+◌, ◌-◌, ◌<◌, ◌≤◌, List, None, refl, ap, sym, ◌∙◌, arith}
+use Rattle.std.proofs.Common.{◌≡◌, inl, inr, ℕ, zero, suc, ◌+◌, ◌-◌, ◌<◌, ◌≤◌, List, None, refl, ap, sym, ◌∙◌, arith}
+use Rattle.std.proofs.lemmas.Option.{none-some}
+use Rattle.plain_lemmas.proofs.Numbers.{cases_le}
 use Rattle.sm_types.specs.declared.config.Config.{Config}
 use Rattle.sm_types.specs.declared.shared_op.Event.{Event}
 use Rattle.sm_types.specs.declared.stop.Stop.{Stop}
@@ -11,10 +13,7 @@ use Rattle.lone_runner.specs.Parting.{IsParting, parting_at}
 use Rattle.lone_runner.specs.Rest.{IsRestOfRun, IsPartingFrom, RestIsRest}
 use Rattle.lone_runner.specs.declared.fault.AloneFault.{AloneFault}
 use Rattle.lone_runner.proofs.Later.{at_before}
-use Rattle.lone_runner.proofs.Partings.{stays_so, not_some}
-
-within_or : (n k : ℕ) → (n ≤ k) ⊎ (k < n)
-within_or n k = grind arith
+use Rattle.lone_runner.proofs.Partings.{stays_so}
 
 module _ (program : Program) (config : Config) (thread : ℕ) (journal : List Event) (turns : ℕ) (s : State) (used : ℕ) (left : List Event)
     (at : reach program config thread journal turns ≡ At s used left) where
@@ -34,7 +33,7 @@ module _ (program : Program) (config : Config) (thread : ℕ) (journal : List Ev
       let clash : At s used left ≡ Ended t stop done rest = sym at ∙ stays in cc
 
   ends_so : (t : State) (stop : Stop) → IsLoneRun program config thread journal t stop → IsRestOfRun config thread s used left t stop
-  ends_so t stop h = elim (within_or turns h.turns) [
+  ends_so t stop h = elim (cases_le turns h.turns) [
     | inl later ↦ record { turns = h.turns - turns; used = h.used; ends = sym (joined h.turns later) ∙ h.ends }
     | inr before ↦ absurd (not_ended h.turns t stop h.used _ (omega (arith, before)) h.ends)
   ]
@@ -48,18 +47,18 @@ module _ (program : Program) (config : Config) (thread : ℕ) (journal : List Ev
         most
 
     parts_so : IsParting program config thread journal count fault → IsPartingFrom config thread s used left count fault
-    parts_so h = elim (within_or turns h.turns) [
+    parts_so h = elim (cases_le turns h.turns) [
       | inl later ↦ record {
         turns = h.turns - turns;
         parts = ap (parting_at count) (sym (joined h.turns later)) ∙ h.parts;
         first = λ earlier l. ap (parting_at count) (sym (join earlier)) ∙ h.first (turns + earlier) (omega (arith, l, later));
       }
-      | inr before ↦ absurd (not_some fault (sym (none_before h.turns (omega (arith, before))) ∙ h.parts))
+      | inr before ↦ absurd (none-some fault (sym (none_before h.turns (omega (arith, before))) ∙ h.parts))
     ]
 
     first_so : (h : IsPartingFrom config thread s used left count fault) (earlier : ℕ) → earlier < turns + h.turns
         → parting_at count (reach program config thread journal earlier) ≡ None
-    first_so h earlier l = elim (within_or turns earlier) [
+    first_so h earlier l = elim (cases_le turns earlier) [
       | inl later ↦ ap (parting_at count) (joined earlier later) ∙ h.first (earlier - turns) (omega (arith, l, later))
       | inr before ↦ none_before earlier (omega (arith, before))
     ]

@@ -4,6 +4,8 @@ use Rattle.std.proofs.Common.{Some, None, inl, inr}
 use Rattle.std.specs.Prelude.{nat_lt}
 use Rattle.std.proofs.lemmas.Bool.{cases_Bool}
 use Rattle.std.proofs.lemmas.Bool.Decides.{nat_tests}
+use Rattle.std.proofs.lemmas.Option.{none-some}
+use Rattle.plain_lemmas.proofs.Numbers.{cases_lt_eq_gt}
 use Rattle.sm_types.specs.declared.config.Config.{Config}
 use Rattle.sm_types.specs.declared.shared_op.Event.{Event}
 use Rattle.shared_region.specs.Ports.{ReplayEvents}
@@ -17,7 +19,7 @@ use Rattle.lone_runner.specs.Parting.{parting_at, state_at}
 use Rattle.lone_runner.specs.Replayed.{HasTicket}
 use Rattle.lone_runner.specs.Way.{IsOnItsWay, IsBefore}
 use Rattle.lone_runner.specs.declared.fault.AloneFault.TheVariants.{GoesOn}
-use Rattle.lone_runner.proofs.Partings.{compared, reach_next, reach_counts, count_later, not_some}
+use Rattle.lone_runner.proofs.Partings.{reach_next, reach_counts, count_later}
 use Rattle.lone_runner.proofs.Shown.{none_yet}
 use Rattle.lone_runner.proofs.Ways.{up_to}
 
@@ -25,7 +27,7 @@ use Rattle.lone_runner.proofs.Ways.{up_to}
 pub not_passed : (count : ℕ) (s : State) (used : ℕ) (left : List Event) → parting_at count (At s used left) ≡ None → s.count ≤ count
 not_passed count s used left none = elim (cases_Bool (nat_lt count s.count)) [
   | inl over ↦
-      absurd (not_some (GoesOn count) (sym none ∙ ap (λ b. cond b (Some (GoesOn count)) None) over))
+      absurd (none-some (GoesOn count) (sym none ∙ ap (λ b. cond b (Some (GoesOn count)) None) over))
   | inr within ↦ grind (arith, nat_tests)
 ]
 
@@ -123,7 +125,7 @@ module _ (program : Program) (config : Config) (thread : ℕ) (journal : List Ev
       ap (λ (r : Reached). (state_at r).count) h.way.at in
       record {
         way = way_goes_on h.way;
-        below = λ m l. elim (compared m h.way.turns) [
+        below = λ m l. elim (cases_lt_eq_gt m h.way.turns) [
           | inl less ↦ h.below m less
           | inr (inl here) ↦
               let now = ap (counted_at program config thread journal count) here in omega (arith, now, at, l, here, counted, most)

@@ -1,12 +1,13 @@
 use Rattle.std.proofs.Common.{rules, ◌≡◌, ◌≢◌, ◌∙◌, sym, ap, refl, List, ◌++◌, None, length}
 use Rattle.sm_types.specs.declared.shared_op.Event.{Event}
 use Rattle.std.specs.Prelude.{Ok, Err}
+use Rattle.plain_lemmas.proofs.Options.{is_some-false}
 use Rattle.kernel_contexts.specs.Context.{state_of, config_of, image_of, thread_of, journal_of}
 use Rattle.lone_runner.specs.Parting.{IsParting, parting_at}
 use Rattle.lone_runner.specs.Replayed.{place_of, WantsOnTheWay}
 use Rattle.lone_runner.specs.declared.fault.AloneFault.TheVariants.{Memory}
 use Rattle.lone_runner.proofs.Several.{way_goes_on, held_still, not_passed, turns_fall, up_to_count}
-use Rattle.lone_runner.proofs.Ways.{way_starts, way_parts, way_strays, way_on, ended, none_of, some_of}
+use Rattle.lone_runner.proofs.Ways.{way_starts, way_parts, way_strays, way_on, ended, some_of}
 use Rattle.lone_runner.proofs.alone.follow.Goals as goal
 
 pub turns-init : goal.turns-init
@@ -62,7 +63,7 @@ turns-preserved c =
     let f = c.advance_several.ensures in
     let mid = c.make_turn.new.context in
     let last = c.advance_several.new.self in
-    let none = none_of _ (sym c.is_some.ensures ∙ c.if-is_some.false) in
+    let none = is_some-false _ (sym c.is_some.ensures ∙ c.if-is_some.false) in
     let config = e.same.config ∙ h.same.config in
     let thread = e.same.thread ∙ h.same.thread in
     let none_parts : parting_at c.args.count (place_of mid c.make_turn.new.ticket None) ≡ None =
@@ -102,6 +103,6 @@ pub turns-smaller : goal.turns-smaller
 turns-smaller c =
     let e = c.in_ok-stop.ensures in
     let f = c.advance_several.ensures in
-    let none = none_of _ (sym c.is_some.ensures ∙ c.if-is_some.false) in
+    let none = is_some-false _ (sym c.is_some.ensures ∙ c.if-is_some.false) in
     turns_fall (config_of c.turns.context) (config_of c.make_turn.new.context) (config_of c.advance_several.new.self) _ _ _
     c.advance_several.result.count e.same.config f.same.config (e.made (ap Ok none)) e.few f.made
