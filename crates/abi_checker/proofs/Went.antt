@@ -1,7 +1,7 @@
 -- What the code's parts of a state come to.
 use Rattle.std.proofs.Common.{inl, inr, ◌≡◌, ℕ, suc, ◌+◌, ◌<◌, ◌≤◌, ◌++◌, List, [], ◌∷◌, length, filter, refl, ap, sym, ◌∙◌, arith, subst}
 use Rattle.std.proofs.Common.{Option, Some, None, true, false}
-use Rattle.std.proofs.Common.{get_or}
+use Rattle.std.proofs.Common.{get_or, Vec, Global}
 use Rattle.std.specs.Prelude.{not, Result, Ok, Err, IfOk}
 use Rattle.std.specs.List.{All, Contains}
 use Rattle.std.proofs.lemmas.List.{length_push, get_or_default}
