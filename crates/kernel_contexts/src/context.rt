@@ -1,6 +1,7 @@
 //! Contexts and their turns.
 ghost use Rattle.std.specs.Prelude.{◌≡◌, ◌<◌, [], length, None, Some, IfOk};
-ghost use Rattle.std.specs.Prelude.{true, false, ℕ, slice_get};
+ghost use Rattle.std.specs.Prelude.{true, false, ℕ, slice_get, map};
+ghost use Rattle.std.specs.List.{range_with_len};
 ghost use Rattle.kernel_contexts.specs.GuestThread.{IsFromStart, IsHomeRun, one_home_run};
 ghost use Rattle.kernel_contexts.specs.SaveArea.{IsSaveArea};
 ghost use Rattle.kernel_contexts.specs.Owner.{owns};
@@ -69,6 +70,8 @@ pub struct Finished {
     pub words: Words,
     /// They are home.
     pub ghost home: { (k : ℕ) (c : _) → slice_get contexts.items k ≡ Some c → c.home ≡ true },
+    /// Context k is that of thread k.
+    pub ghost order: { map (λ c. c.guest.number) contexts.items ≡ range_with_len 0 (length contexts.items) },
 }
 
 impl Context {

@@ -1,6 +1,6 @@
 -- Contexts at their stops, in order, are the contexts of a run.
 use Rattle.std.proofs.Common.{◌≡◌, ℕ, zero, suc, ◌+◌, List, [], ◌∷◌, map, length, get_or, refl, sym, ap, ◌∙◌, subst, arith}
-use Rattle.std.specs.Prelude.{Option, Some, None, All, slice_get}
+use Rattle.std.specs.Prelude.{Option, Some, None, All, slice_get, true}
 use Rattle.std.specs.List.{range_with_len}
 use Rattle.std.proofs.lemmas.List.{length-map}
 use Rattle.std.proofs.lemmas.List.Elements.{All-head, All-tail}
@@ -13,7 +13,7 @@ use Rattle.paged_memory.specs.Image.{Program}
 use Rattle.shared_region.specs.History.{AreOneHistory}
 use Rattle.kernel_contexts.specs.Run.{reach, Ended}
 use Rattle.kernel_contexts.specs.Standing.{IsRunOf}
-use Rattle.kernel_contexts.specs.Context.{image_of, config_of, thread_of, state_of, stop_of, journal_of}
+use Rattle.kernel_contexts.specs.Context.{image_of, config_of, thread_of, state_of, stop_of, journal_of, is_home}
 use Rattle.kernel_contexts.specs.declared.context.Context.{Context}
 use Rattle.lone_runner.specs.LoneRun.{HasRunAlone, HaveRun}
 use Rattle.smp_runner.specs.Ended.{IsAtItsStop}
@@ -55,6 +55,13 @@ alone image config k c e number = go (stop_of c) refl
           };
         }
 
+-- numbers from 0 on, of so many as there are items
+pub in_number : {X : Type 0} (f : X → ℕ) (xs : List X) (n : ℕ) → map f xs ≡ range_with_len 0 n
+    → map f xs ≡ range_with_len 0 (length xs)
+in_number f xs n order =
+    let count : n ≡ length xs = sym (length-range_with_len 0 n) ∙ ap length (sym order) ∙ length-map xs f in
+    order ∙ ap (range_with_len 0) count
+
 pub have_run : (image : Program) (config : Config) (cs : List Context) (words : Words)
     → map (λ c. thread_of c) cs ≡ range_with_len 0 config.threads → All (IsAtItsStop image config) cs
     → AreOneHistory (map (λ c. journal_of c) cs) words → HaveRun image config cs words
@@ -71,6 +78,10 @@ have_run image config cs words order ended one =
           alone image config k c (held_at (IsAtItsStop image config) cs k c ended at) (number ∙ omega arith);
       one_history = one;
     }
+
+pub all_home : (image : Program) (config : Config) (cs : List Context) → All (IsAtItsStop image config) cs
+    → (k : ℕ) (c : Context) → slice_get cs k ≡ Some c → is_home c ≡ true
+all_home image config cs ended k c at = (held_at (IsAtItsStop image config) cs k c ended at).home
 
 pub all_started : (image : Program) (config : Config) (cs : List Context) → All (IsAtItsStop image config) cs
     → All (λ c. (image_of c ≡ image) × (config_of c ≡ config)) cs

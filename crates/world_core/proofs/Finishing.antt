@@ -5,6 +5,7 @@ use Rattle.std.specs.Prelude.{Some, Contains, IsPermutation, slice_get}
 use Rattle.std.specs.List.{range_with_len}
 use Rattle.std.specs.Option.{option_map}
 use Rattle.std.proofs.lemmas.List.{length-map}
+use Rattle.std.proofs.lemmas.Simd.{map-map}
 use Rattle.std.proofs.lemmas.List.Elements.{Contains-append_left, Contains-append_right, Contains-append_cases}
 use Rattle.std.proofs.lemmas.List.FromFn.{length-range_with_len, get_or-range_with_len}
 use Rattle.std.proofs.lemmas.List.Sorted.{IsPermutation-sym, IsPermutation-map, Contains-permutation}
@@ -50,6 +51,16 @@ all_home context home xs contexts are k c get =
     let found = slice_get_from_map context xs k c (ap (λ l. slice_get l k) (sym are) ∙ get) in ap is_home (sym found.2) ∙ home found.0
 
 -- and in the order of their threads' numbers
+
+pub in_number : {X : Type 0} (context : X → Context) (sorted : List X) (bound : ℕ)
+    → map (λ x. thread_of (context x)) sorted ≡ range_with_len 0 bound → (contexts : List Context) → contexts ≡ map context sorted
+    → map (λ c. thread_of c) contexts ≡ range_with_len 0 (length contexts)
+in_number context sorted bound order contexts are =
+    let numbers : map (λ c. thread_of c) contexts ≡ range_with_len 0 bound =
+    ap (map (λ c. thread_of c)) are ∙ map-map (λ c. thread_of c) context sorted ∙ order in
+    let count : bound ≡ length contexts =
+    sym (length-range_with_len 0 bound) ∙ ap length (sym numbers) ∙ length-map contexts (λ c. thread_of c) in
+    numbers ∙ ap (range_with_len 0) count
 
 module _ {X : Type 0} (context : X → Context) (home : (x : X) → is_home (context x) ≡ true) (all sorted : List X)
     (bound : ℕ) (same : IsPermutation all sorted) (order : map (λ x. thread_of (context x)) sorted ≡ range_with_len 0 bound) where
