@@ -7,11 +7,13 @@ mod checks;
 mod laws;
 mod places;
 mod quiet;
+mod returning;
 mod routines;
 mod runs;
 
 pub use block::{buffer_address, read_block, saved_bytes};
 pub use laws::routines_run_with_handlers;
 pub use places::{RoutinePlaces, is_ready};
+pub use returning::a_return_at_once_is_a_run;
 pub use routines::{can_disable, can_return};
 pub use runs::{run_disable, run_tail};
