@@ -55,25 +55,27 @@ returns c = λ config thread used over from begun left may first next apart.
     ∙ call_returns config thread used begun (outside_streaming config begun) next.return
     ∙ return_is config begun sees in
     let memory : core.memory ≡ inside.memory =
-    ap (λ (k : ProcessorState). k.memory) back.0 ∙ ap (λ (k : ProcessorState). k.memory) d.core in
-    (to, record {
-      delivers = may.next;
-      due = may.due;
-      begun = begun;
-      first = first;
-      apart = apart;
-      turns = 0;
-      last = begun;
-      between = refl;
-      executes = next.next;
-      undue = next.undue;
-      number = next.number;
-      call = next.call;
-      return = next.return;
-      made = is ∙ ap (λ (o : Option ℕ). return_unless o begun to) made;
-      sp = ap (λ (k : ProcessorState). k.scalars.sp) d.core ∙ at_frame v l signal d.handler from;
-      frame = frame;
-      bytes = λ address on. ap (λ (m : AddressSpace). get m.mem address) memory
-          ∙ bytes_inside v l signal d.handler from may.plain.range address (apart address on);
-      pages = ap (λ (m : AddressSpace). m.perm) (memory ∙ memory_inside v l signal d.handler from);
-    })
+    ap (λ (k : ProcessorState). k.memory) back.0 ∙ ap (λ (k : ProcessorState). k.memory) d.core in (
+      to,
+      record {
+        delivers = may.next;
+        due = may.due;
+        begun = begun;
+        first = first;
+        apart = apart;
+        turns = 0;
+        last = begun;
+        between = refl;
+        executes = next.next;
+        undue = next.undue;
+        number = next.number;
+        call = next.call;
+        return = next.return;
+        made = is ∙ ap (λ (o : Option ℕ). return_unless o begun to) made;
+        sp = ap (λ (k : ProcessorState). k.scalars.sp) d.core ∙ at_frame v l signal d.handler from;
+        frame = frame;
+        bytes = λ address on. ap (λ (m : AddressSpace). get m.mem address) memory
+            ∙ bytes_inside v l signal d.handler from may.plain.range address (apart address on);
+        pages = ap (λ (m : AddressSpace). m.perm) (memory ∙ memory_inside v l signal d.handler from);
+      },
+    )
