@@ -1,6 +1,7 @@
 -- A state in plain fields, as the fields of a file.
 use Rattle.std.specs.Prelude.{◌≡◌, ℕ, ◌*◌, ◌/◌, ◌^◌, ◌<◌, ◌≤◌, All, List, [], ◌∷◌, ◌++◌, length, map}
 use Rattle.sm_types.specs.declared.numbers.Numbers.{Numbers}
+use Rattle.sm_types.specs.declared.limits.TheConstants.{OUTPUT_LIMIT, PAGE_LIMIT}
 use Rattle.field_table.specs.Rows.{rows}
 use Rattle.kernel_contexts.specs.LooseState.{handler_entry}
 use Rattle.kernel_contexts.specs.declared.loose_state.LooseState.{LooseState}
@@ -36,9 +37,9 @@ pub record HasLooseSizes (options : Numbers) (t : LooseState) : Type 0 where
   pub array : length t.za.items ≡ array_size options t.svcr * (options.svl / 8)
   pub handlers : All IsNarrowEntry t.handlers.items
   pub few_handlers : length t.handlers.items ≤ 62
-  pub few_bytes : length t.output.items ≤ 1048576
+  pub few_bytes : length t.output.items ≤ OUTPUT_LIMIT
   pub pages : All IsNarrowPage t.pages.items
-  pub few_pages : length t.pages.items ≤ 4096
+  pub few_pages : length t.pages.items ≤ PAGE_LIMIT
 
 -- its numbers fit their types
 pub record HasNarrowNumbers (t : LooseState) : Type 0 where
