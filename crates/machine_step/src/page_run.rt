@@ -18,7 +18,7 @@ use crate::at_once::Attempt;
 use crate::decoder::{Decoded, Decoder};
 use crate::halts::Halts;
 use crate::machine::Machine;
-use mem_access::Bank;
+use mem_access::{Bank, is_near};
 use paged_memory::{Pages, word_of};
 use scalar_exec::Flat;
 use sm_types::{AccessSize, Address, Insn, LoadStore, LoadStoreOp, Scalars};
@@ -212,15 +212,13 @@ impl Machine {
         ensures owned { KeepsOwned self.old.pages self.new.pages }
         ensures mode { KeepsMode self.old self.new }
     {
-        let word = known.word();
-        let size = AccessSize::Doubleword;
         match known.flat() {
             Flat::StoreDoubleword(x) => {
                 let address = Address::Offset { imm: x.imm };
-                self.access_known(word, &store_by(size, address, x.rn, x.rt))
+                self.store_by(known, AccessSize::Doubleword, address, x.rn, x.rt)
             }
             Flat::StoreDoublewordAt(x, address) => {
-                self.access_known(word, &store_by(size, address, x.rn, x.rt))
+                self.store_by(known, AccessSize::Doubleword, address, x.rn, x.rt)
             }
             _ => Attempt::Waits,
         }
@@ -237,15 +235,13 @@ impl Machine {
         ensures owned { KeepsOwned self.old.pages self.new.pages }
         ensures mode { KeepsMode self.old self.new }
     {
-        let word = known.word();
-        let size = AccessSize::Word;
         match known.flat() {
             Flat::StoreWord(x) => {
                 let address = Address::Offset { imm: x.imm };
-                self.access_known(word, &store_by(size, address, x.rn, x.rt))
+                self.store_by(known, AccessSize::Word, address, x.rn, x.rt)
             }
             Flat::StoreWordAt(x, address) => {
-                self.access_known(word, &store_by(size, address, x.rn, x.rt))
+                self.store_by(known, AccessSize::Word, address, x.rn, x.rt)
             }
             _ => Attempt::Waits,
         }
@@ -262,15 +258,13 @@ impl Machine {
         ensures owned { KeepsOwned self.old.pages self.new.pages }
         ensures mode { KeepsMode self.old self.new }
     {
-        let word = known.word();
-        let size = AccessSize::Halfword;
         match known.flat() {
             Flat::StoreHalfword(x) => {
                 let address = Address::Offset { imm: x.imm };
-                self.access_known(word, &store_by(size, address, x.rn, x.rt))
+                self.store_by(known, AccessSize::Halfword, address, x.rn, x.rt)
             }
             Flat::StoreHalfwordAt(x, address) => {
-                self.access_known(word, &store_by(size, address, x.rn, x.rt))
+                self.store_by(known, AccessSize::Halfword, address, x.rn, x.rt)
             }
             _ => Attempt::Waits,
         }
@@ -287,21 +281,19 @@ impl Machine {
         ensures owned { KeepsOwned self.old.pages self.new.pages }
         ensures mode { KeepsMode self.old self.new }
     {
-        let word = known.word();
-        let size = AccessSize::Byte;
         match known.flat() {
             Flat::StoreByte(x) => {
                 let address = Address::Offset { imm: x.imm };
-                self.access_known(word, &store_by(size, address, x.rn, x.rt))
+                self.store_by(known, AccessSize::Byte, address, x.rn, x.rt)
             }
             Flat::StoreByteAt(x, address) => {
-                self.access_known(word, &store_by(size, address, x.rn, x.rt))
+                self.store_by(known, AccessSize::Byte, address, x.rn, x.rt)
             }
             _ => Attempt::Waits,
         }
     }
 
-    /// Makes the store of two registers by a call.
+    /// Makes any store by a call.
     #[inline(never)]
     fn store_other(&mut self, known: &Decoded) -> Attempt
         requires aligned { self.old.scalars.pc % 4 ≡ 0 }
@@ -313,8 +305,50 @@ impl Machine {
         ensures mode { KeepsMode self.old self.new }
     {
         match known.insn() {
+            Insn::LoadStore(_) => self.access_known(known.word(), known.insn()),
             Insn::LoadStorePair(_) => self.access_known(known.word(), known.insn()),
             _ => Attempt::Waits,
+        }
+    }
+
+    /// Makes the store of one register of these parts, which the word means. Where it does not lie near it is made by
+    /// a call, so that this saves no register.
+    #[inline(always)]
+    fn store_by(
+        &mut self,
+        known: &Decoded,
+        size: AccessSize,
+        address: Address,
+        rn: u8,
+        rt: u8,
+    ) -> Attempt
+        requires means { instruction_of known.now.word ≡ Some (Insn.LoadStore (record {
+          op = LoadStoreOp.Store;
+          size = size;
+          address = address;
+          rn = rn;
+          rt = rt;
+        })) }
+        requires aligned { self.old.scalars.pc % 4 ≡ 0 }
+        requires fetched { word_at self.old.pages.memory self.old.scalars.pc ≡ Some known.now.word }
+        ensures effect { (bank : Bank) → AttemptsOn effect_of self.old bank self.new bank result }
+        ensures kept { result ≡ Attempt.Done → (apart : Bool) (bank : VectorState)
+            → (apart && needs_bank (core_of self.old bank)) ≡ false }
+        ensures owned { KeepsOwned self.old.pages self.new.pages }
+        ensures mode { KeepsMode self.old self.new }
+    {
+        let word = known.word();
+        let x = LoadStore {
+            op: LoadStoreOp::Store,
+            size,
+            address,
+            rn,
+            rt,
+        };
+        if is_near(&x, &self.scalars, &self.pages) {
+            self.access_known(word, &Insn::LoadStore(x))
+        } else {
+            self.store_other(known)
         }
     }
 
@@ -333,24 +367,4 @@ impl Machine {
     {
         self.access_at_once(insn)
     }
-}
-
-/// Stores a register.
-#[inline(always)]
-fn store_by(size: AccessSize, address: Address, rn: u8, rt: u8) -> Insn
-    ensures { result ≡ Insn.LoadStore (record {
-      op = LoadStoreOp.Store;
-      size = size;
-      address = address;
-      rn = rn;
-      rt = rt;
-    }) }
-{
-    Insn::LoadStore(LoadStore {
-        op: LoadStoreOp::Store,
-        size,
-        address,
-        rn,
-        rt,
-    })
 }

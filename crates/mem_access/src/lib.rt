@@ -20,4 +20,4 @@ pub use checks::first_shared;
 pub use numbers::{read_number, write_bytes};
 pub use shared_access::{touched_fault, touched_is_shared, touches, write_answer};
 pub use stop::AccessStop;
-pub use transfers::{load_beside, load_one, load_pair, transfer};
+pub use transfers::{is_near, load_beside, load_one, load_pair, transfer};

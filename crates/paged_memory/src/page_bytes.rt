@@ -106,7 +106,22 @@ impl PageBytes {
 
     /// Gives bytes that are shared a copy of the page's own. `Err` is want of memory, and leaves all as it
     /// was.
+    #[inline(always)]
     pub fn make_own(&mut self, alloc: Global) -> Result<(), AllocError>
+        ensures items { self.new.items ≡ self.old.items }
+        ensures ok { OnOk result (self.new.own ≡ true) }
+        ensures err { OnErr result (self.new.own ≡ self.old.own) }
+        ensures room { OnErr result (self.old.own ≡ false) }
+    {
+        if self.is_own() {
+            return Ok(());
+        }
+        self.copy_own(alloc)
+    }
+
+    /// The same by a call.
+    #[inline(never)]
+    fn copy_own(&mut self, alloc: Global) -> Result<(), AllocError>
         ensures items { self.new.items ≡ self.old.items }
         ensures ok { OnOk result (self.new.own ≡ true) }
         ensures err { OnErr result (self.new.own ≡ self.old.own) }

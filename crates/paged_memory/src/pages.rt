@@ -155,6 +155,29 @@ impl Pages {
         }
     }
 
+    /// Whether some bytes from an address on lie within the page that is hinted at for it, and this has the
+    /// permission of reading, and of writing where `writes`, and then is owned too. Then reading or writing them
+    /// needs neither a search nor a copy. It says only which way is the shorter one: no clause needs it.
+    #[inline(always)]
+    pub fn is_near(&self, address: u64, count: u64, writes: bool) -> bool
+        requires { count ≤ 4096 }
+    {
+        let number = address / 4096;
+        let place = self.hints.place(number);
+        if address % 4096 + count > 4096 || place >= self.pages.len() {
+            return false;
+        }
+        let page = &self.pages[place];
+        if page.number != number {
+            return false;
+        }
+        if writes {
+            page.flags & 2 == 2 && page.bytes.is_own()
+        } else {
+            page.flags & 4 == 4
+        }
+    }
+
     /// The 4096 bytes of the page of that address, where it can be executed.
     #[inline(always)]
     pub fn code(&self, base: u64) -> Option<&[u8]>
