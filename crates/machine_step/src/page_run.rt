@@ -3,6 +3,7 @@
 ghost use Rattle.std.specs.Prelude.{◌≡◌, ◌&&◌, ◌%◌, ◌<◌, ◌≤◌, Bool, IsTrue, Some, false, true, length};
 ghost use Rattle.a64_encode.specs.Either.{instruction_of};
 ghost use Rattle.mem_access.specs.Transfer.{is_access};
+ghost use Rattle.scalar_exec.specs.Forms.{access_of};
 ghost use Rattle.paged_memory.specs.Memory.{bytes_with, word_at};
 ghost use Rattle.paged_memory.specs.PageTable.{KeepsOwned};
 ghost use Rattle.mem_access.specs.Bank.{bank_state};
@@ -20,7 +21,7 @@ use crate::halts::Halts;
 use crate::machine::Machine;
 use mem_access::{Bank, is_near};
 use paged_memory::{Pages, word_of};
-use scalar_exec::Flat;
+use scalar_exec::{Base, Flat};
 use sm_types::{AccessSize, Address, Insn, LoadStore, LoadStoreOp, Scalars};
 
 /// What is known of the instruction at PC.
@@ -190,18 +191,20 @@ impl Machine {
         ensures mode { KeepsMode self.old self.new }
     {
         match known.flat() {
-            Flat::StoreDoubleword(_) | Flat::StoreDoublewordAt(_, _) => self.store_doubleword(
-                known,
-            ),
-            Flat::StoreWord(_) | Flat::StoreWordAt(_, _) => self.store_word(known),
-            Flat::StoreHalfword(_) | Flat::StoreHalfwordAt(_, _) => self.store_halfword(known),
-            Flat::StoreByte(_) | Flat::StoreByteAt(_, _) => self.store_byte(known),
+            Flat::StoreDoubleword(_) => self.store_doubleword(known),
+            Flat::StoreDoublewordAt(_, _) => self.store_doubleword_at(known),
+            Flat::StoreWord(_) => self.store_word(known),
+            Flat::StoreWordAt(_, _) => self.store_word_at(known),
+            Flat::StoreHalfword(_) => self.store_halfword(known),
+            Flat::StoreHalfwordAt(_, _) => self.store_halfword_at(known),
+            Flat::StoreByte(_) => self.store_byte(known),
+            Flat::StoreByteAt(_, _) => self.store_byte_at(known),
             Flat::Store => self.store_other(known),
             _ => Attempt::Waits,
         }
     }
 
-    /// Makes the store of a doubleword by a call in which that is constant.
+    /// Makes the store of a doubleword at an offset, by a call in which that is constant.
     #[inline(never)]
     fn store_doubleword(&mut self, known: &Decoded) -> Attempt
         requires aligned { self.old.scalars.pc % 4 ≡ 0 }
@@ -217,14 +220,33 @@ impl Machine {
                 let address = Address::Offset { imm: x.imm };
                 self.store_by(known, AccessSize::Doubleword, address, x.rn, x.rt)
             }
-            Flat::StoreDoublewordAt(x, address) => {
-                self.store_by(known, AccessSize::Doubleword, address, x.rn, x.rt)
-            }
             _ => Attempt::Waits,
         }
     }
 
-    /// Makes the store of a word by a call in which that is constant.
+    /// The same at another address.
+    #[inline(never)]
+    fn store_doubleword_at(&mut self, known: &Decoded) -> Attempt
+        requires aligned { self.old.scalars.pc % 4 ≡ 0 }
+        requires fetched { word_at self.old.pages.memory self.old.scalars.pc ≡ Some known.now.word }
+        ensures effect { (bank : Bank) → AttemptsOn effect_of self.old bank self.new bank result }
+        ensures kept { result ≡ Attempt.Done → (apart : Bool) (bank : VectorState)
+            → (apart && needs_bank (core_of self.old bank)) ≡ false }
+        ensures owned { KeepsOwned self.old.pages self.new.pages }
+        ensures mode { KeepsMode self.old self.new }
+    {
+        match known.flat() {
+            Flat::StoreDoublewordAt(x, address) => self.store_at(
+                known,
+                AccessSize::Doubleword,
+                address,
+                x,
+            ),
+            _ => Attempt::Waits,
+        }
+    }
+
+    /// Makes the store of a word at an offset, by a call in which that is constant.
     #[inline(never)]
     fn store_word(&mut self, known: &Decoded) -> Attempt
         requires aligned { self.old.scalars.pc % 4 ≡ 0 }
@@ -240,14 +262,28 @@ impl Machine {
                 let address = Address::Offset { imm: x.imm };
                 self.store_by(known, AccessSize::Word, address, x.rn, x.rt)
             }
-            Flat::StoreWordAt(x, address) => {
-                self.store_by(known, AccessSize::Word, address, x.rn, x.rt)
-            }
             _ => Attempt::Waits,
         }
     }
 
-    /// Makes the store of a halfword by a call in which that is constant.
+    /// The same at another address.
+    #[inline(never)]
+    fn store_word_at(&mut self, known: &Decoded) -> Attempt
+        requires aligned { self.old.scalars.pc % 4 ≡ 0 }
+        requires fetched { word_at self.old.pages.memory self.old.scalars.pc ≡ Some known.now.word }
+        ensures effect { (bank : Bank) → AttemptsOn effect_of self.old bank self.new bank result }
+        ensures kept { result ≡ Attempt.Done → (apart : Bool) (bank : VectorState)
+            → (apart && needs_bank (core_of self.old bank)) ≡ false }
+        ensures owned { KeepsOwned self.old.pages self.new.pages }
+        ensures mode { KeepsMode self.old self.new }
+    {
+        match known.flat() {
+            Flat::StoreWordAt(x, address) => self.store_at(known, AccessSize::Word, address, x),
+            _ => Attempt::Waits,
+        }
+    }
+
+    /// Makes the store of a halfword at an offset, by a call in which that is constant.
     #[inline(never)]
     fn store_halfword(&mut self, known: &Decoded) -> Attempt
         requires aligned { self.old.scalars.pc % 4 ≡ 0 }
@@ -263,14 +299,33 @@ impl Machine {
                 let address = Address::Offset { imm: x.imm };
                 self.store_by(known, AccessSize::Halfword, address, x.rn, x.rt)
             }
-            Flat::StoreHalfwordAt(x, address) => {
-                self.store_by(known, AccessSize::Halfword, address, x.rn, x.rt)
-            }
             _ => Attempt::Waits,
         }
     }
 
-    /// Makes the store of a byte by a call in which that is constant.
+    /// The same at another address.
+    #[inline(never)]
+    fn store_halfword_at(&mut self, known: &Decoded) -> Attempt
+        requires aligned { self.old.scalars.pc % 4 ≡ 0 }
+        requires fetched { word_at self.old.pages.memory self.old.scalars.pc ≡ Some known.now.word }
+        ensures effect { (bank : Bank) → AttemptsOn effect_of self.old bank self.new bank result }
+        ensures kept { result ≡ Attempt.Done → (apart : Bool) (bank : VectorState)
+            → (apart && needs_bank (core_of self.old bank)) ≡ false }
+        ensures owned { KeepsOwned self.old.pages self.new.pages }
+        ensures mode { KeepsMode self.old self.new }
+    {
+        match known.flat() {
+            Flat::StoreHalfwordAt(x, address) => self.store_at(
+                known,
+                AccessSize::Halfword,
+                address,
+                x,
+            ),
+            _ => Attempt::Waits,
+        }
+    }
+
+    /// Makes the store of a byte at an offset, by a call in which that is constant.
     #[inline(never)]
     fn store_byte(&mut self, known: &Decoded) -> Attempt
         requires aligned { self.old.scalars.pc % 4 ≡ 0 }
@@ -286,10 +341,75 @@ impl Machine {
                 let address = Address::Offset { imm: x.imm };
                 self.store_by(known, AccessSize::Byte, address, x.rn, x.rt)
             }
-            Flat::StoreByteAt(x, address) => {
-                self.store_by(known, AccessSize::Byte, address, x.rn, x.rt)
-            }
             _ => Attempt::Waits,
+        }
+    }
+
+    /// The same at another address.
+    #[inline(never)]
+    fn store_byte_at(&mut self, known: &Decoded) -> Attempt
+        requires aligned { self.old.scalars.pc % 4 ≡ 0 }
+        requires fetched { word_at self.old.pages.memory self.old.scalars.pc ≡ Some known.now.word }
+        ensures effect { (bank : Bank) → AttemptsOn effect_of self.old bank self.new bank result }
+        ensures kept { result ≡ Attempt.Done → (apart : Bool) (bank : VectorState)
+            → (apart && needs_bank (core_of self.old bank)) ≡ false }
+        ensures owned { KeepsOwned self.old.pages self.new.pages }
+        ensures mode { KeepsMode self.old self.new }
+    {
+        match known.flat() {
+            Flat::StoreByteAt(x, address) => self.store_at(known, AccessSize::Byte, address, x),
+            _ => Attempt::Waits,
+        }
+    }
+
+    /// Makes the store of one register at any address, of which each kind is tried in advance.
+    #[inline(always)]
+    fn store_at(&mut self, known: &Decoded, size: AccessSize, address: Address, x: Base) -> Attempt
+        requires means { instruction_of known.now.word ≡ Some (access_of LoadStoreOp.Store size x address) }
+        requires aligned { self.old.scalars.pc % 4 ≡ 0 }
+        requires fetched { word_at self.old.pages.memory self.old.scalars.pc ≡ Some known.now.word }
+        ensures effect { (bank : Bank) → AttemptsOn effect_of self.old bank self.new bank result }
+        ensures kept { result ≡ Attempt.Done → (apart : Bool) (bank : VectorState)
+            → (apart && needs_bank (core_of self.old bank)) ≡ false }
+        ensures owned { KeepsOwned self.old.pages self.new.pages }
+        ensures mode { KeepsMode self.old self.new }
+    {
+        match address {
+            Address::Offset { imm } => self.store_by(
+                known,
+                size,
+                Address::Offset { imm },
+                x.rn,
+                x.rt,
+            ),
+            Address::Unscaled { offset } => self.store_by(
+                known,
+                size,
+                Address::Unscaled { offset },
+                x.rn,
+                x.rt,
+            ),
+            Address::PostIndex { offset } => self.store_by(
+                known,
+                size,
+                Address::PostIndex { offset },
+                x.rn,
+                x.rt,
+            ),
+            Address::PreIndex { offset } => self.store_by(
+                known,
+                size,
+                Address::PreIndex { offset },
+                x.rn,
+                x.rt,
+            ),
+            Address::Register { rm, extend, scaled } => self.store_by(
+                known,
+                size,
+                Address::Register { rm, extend, scaled },
+                x.rn,
+                x.rt,
+            ),
         }
     }
 
