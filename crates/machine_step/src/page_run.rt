@@ -3,7 +3,6 @@
 ghost use Rattle.std.specs.Prelude.{◌≡◌, ◌&&◌, ◌%◌, ◌<◌, ◌≤◌, Bool, IsTrue, Some, false, true, length};
 ghost use Rattle.a64_encode.specs.Either.{instruction_of};
 ghost use Rattle.mem_access.specs.Transfer.{is_access};
-ghost use Rattle.scalar_exec.specs.Forms.{access_of};
 ghost use Rattle.paged_memory.specs.Memory.{bytes_with, word_at};
 ghost use Rattle.paged_memory.specs.PageTable.{KeepsOwned};
 ghost use Rattle.mem_access.specs.Bank.{bank_state};
@@ -21,7 +20,7 @@ use crate::halts::Halts;
 use crate::machine::Machine;
 use mem_access::{Bank, is_near};
 use paged_memory::{Pages, word_of};
-use scalar_exec::{Base, Flat};
+use scalar_exec::Flat;
 use sm_types::{AccessSize, Address, Insn, LoadStore, LoadStoreOp, Scalars};
 
 /// What is known of the instruction at PC.
@@ -224,7 +223,7 @@ impl Machine {
         }
     }
 
-    /// The same at another address.
+    /// The same at another address, of each kind apart.
     #[inline(never)]
     fn store_doubleword_at(&mut self, known: &Decoded) -> Attempt
         requires aligned { self.old.scalars.pc % 4 ≡ 0 }
@@ -236,12 +235,43 @@ impl Machine {
         ensures mode { KeepsMode self.old self.new }
     {
         match known.flat() {
-            Flat::StoreDoublewordAt(x, address) => self.store_at(
-                known,
-                AccessSize::Doubleword,
-                address,
-                x,
-            ),
+            Flat::StoreDoublewordAt(x, address) => match address {
+                Address::Offset { imm } => self.store_by(
+                    known,
+                    AccessSize::Doubleword,
+                    Address::Offset { imm },
+                    x.rn,
+                    x.rt,
+                ),
+                Address::Unscaled { offset } => self.store_by(
+                    known,
+                    AccessSize::Doubleword,
+                    Address::Unscaled { offset },
+                    x.rn,
+                    x.rt,
+                ),
+                Address::PostIndex { offset } => self.store_by(
+                    known,
+                    AccessSize::Doubleword,
+                    Address::PostIndex { offset },
+                    x.rn,
+                    x.rt,
+                ),
+                Address::PreIndex { offset } => self.store_by(
+                    known,
+                    AccessSize::Doubleword,
+                    Address::PreIndex { offset },
+                    x.rn,
+                    x.rt,
+                ),
+                Address::Register { rm, extend, scaled } => self.store_by(
+                    known,
+                    AccessSize::Doubleword,
+                    Address::Register { rm, extend, scaled },
+                    x.rn,
+                    x.rt,
+                ),
+            },
             _ => Attempt::Waits,
         }
     }
@@ -266,7 +296,7 @@ impl Machine {
         }
     }
 
-    /// The same at another address.
+    /// The same at another address, of each kind apart.
     #[inline(never)]
     fn store_word_at(&mut self, known: &Decoded) -> Attempt
         requires aligned { self.old.scalars.pc % 4 ≡ 0 }
@@ -278,7 +308,43 @@ impl Machine {
         ensures mode { KeepsMode self.old self.new }
     {
         match known.flat() {
-            Flat::StoreWordAt(x, address) => self.store_at(known, AccessSize::Word, address, x),
+            Flat::StoreWordAt(x, address) => match address {
+                Address::Offset { imm } => self.store_by(
+                    known,
+                    AccessSize::Word,
+                    Address::Offset { imm },
+                    x.rn,
+                    x.rt,
+                ),
+                Address::Unscaled { offset } => self.store_by(
+                    known,
+                    AccessSize::Word,
+                    Address::Unscaled { offset },
+                    x.rn,
+                    x.rt,
+                ),
+                Address::PostIndex { offset } => self.store_by(
+                    known,
+                    AccessSize::Word,
+                    Address::PostIndex { offset },
+                    x.rn,
+                    x.rt,
+                ),
+                Address::PreIndex { offset } => self.store_by(
+                    known,
+                    AccessSize::Word,
+                    Address::PreIndex { offset },
+                    x.rn,
+                    x.rt,
+                ),
+                Address::Register { rm, extend, scaled } => self.store_by(
+                    known,
+                    AccessSize::Word,
+                    Address::Register { rm, extend, scaled },
+                    x.rn,
+                    x.rt,
+                ),
+            },
             _ => Attempt::Waits,
         }
     }
@@ -303,7 +369,7 @@ impl Machine {
         }
     }
 
-    /// The same at another address.
+    /// The same at another address, of each kind apart.
     #[inline(never)]
     fn store_halfword_at(&mut self, known: &Decoded) -> Attempt
         requires aligned { self.old.scalars.pc % 4 ≡ 0 }
@@ -315,12 +381,43 @@ impl Machine {
         ensures mode { KeepsMode self.old self.new }
     {
         match known.flat() {
-            Flat::StoreHalfwordAt(x, address) => self.store_at(
-                known,
-                AccessSize::Halfword,
-                address,
-                x,
-            ),
+            Flat::StoreHalfwordAt(x, address) => match address {
+                Address::Offset { imm } => self.store_by(
+                    known,
+                    AccessSize::Halfword,
+                    Address::Offset { imm },
+                    x.rn,
+                    x.rt,
+                ),
+                Address::Unscaled { offset } => self.store_by(
+                    known,
+                    AccessSize::Halfword,
+                    Address::Unscaled { offset },
+                    x.rn,
+                    x.rt,
+                ),
+                Address::PostIndex { offset } => self.store_by(
+                    known,
+                    AccessSize::Halfword,
+                    Address::PostIndex { offset },
+                    x.rn,
+                    x.rt,
+                ),
+                Address::PreIndex { offset } => self.store_by(
+                    known,
+                    AccessSize::Halfword,
+                    Address::PreIndex { offset },
+                    x.rn,
+                    x.rt,
+                ),
+                Address::Register { rm, extend, scaled } => self.store_by(
+                    known,
+                    AccessSize::Halfword,
+                    Address::Register { rm, extend, scaled },
+                    x.rn,
+                    x.rt,
+                ),
+            },
             _ => Attempt::Waits,
         }
     }
@@ -345,7 +442,7 @@ impl Machine {
         }
     }
 
-    /// The same at another address.
+    /// The same at another address, of each kind apart.
     #[inline(never)]
     fn store_byte_at(&mut self, known: &Decoded) -> Attempt
         requires aligned { self.old.scalars.pc % 4 ≡ 0 }
@@ -357,59 +454,44 @@ impl Machine {
         ensures mode { KeepsMode self.old self.new }
     {
         match known.flat() {
-            Flat::StoreByteAt(x, address) => self.store_at(known, AccessSize::Byte, address, x),
+            Flat::StoreByteAt(x, address) => match address {
+                Address::Offset { imm } => self.store_by(
+                    known,
+                    AccessSize::Byte,
+                    Address::Offset { imm },
+                    x.rn,
+                    x.rt,
+                ),
+                Address::Unscaled { offset } => self.store_by(
+                    known,
+                    AccessSize::Byte,
+                    Address::Unscaled { offset },
+                    x.rn,
+                    x.rt,
+                ),
+                Address::PostIndex { offset } => self.store_by(
+                    known,
+                    AccessSize::Byte,
+                    Address::PostIndex { offset },
+                    x.rn,
+                    x.rt,
+                ),
+                Address::PreIndex { offset } => self.store_by(
+                    known,
+                    AccessSize::Byte,
+                    Address::PreIndex { offset },
+                    x.rn,
+                    x.rt,
+                ),
+                Address::Register { rm, extend, scaled } => self.store_by(
+                    known,
+                    AccessSize::Byte,
+                    Address::Register { rm, extend, scaled },
+                    x.rn,
+                    x.rt,
+                ),
+            },
             _ => Attempt::Waits,
-        }
-    }
-
-    /// Makes the store of one register at any address, of which each kind is tried in advance.
-    #[inline(always)]
-    fn store_at(&mut self, known: &Decoded, size: AccessSize, address: Address, x: Base) -> Attempt
-        requires means { instruction_of known.now.word ≡ Some (access_of LoadStoreOp.Store size x address) }
-        requires aligned { self.old.scalars.pc % 4 ≡ 0 }
-        requires fetched { word_at self.old.pages.memory self.old.scalars.pc ≡ Some known.now.word }
-        ensures effect { (bank : Bank) → AttemptsOn effect_of self.old bank self.new bank result }
-        ensures kept { result ≡ Attempt.Done → (apart : Bool) (bank : VectorState)
-            → (apart && needs_bank (core_of self.old bank)) ≡ false }
-        ensures owned { KeepsOwned self.old.pages self.new.pages }
-        ensures mode { KeepsMode self.old self.new }
-    {
-        match address {
-            Address::Offset { imm } => self.store_by(
-                known,
-                size,
-                Address::Offset { imm },
-                x.rn,
-                x.rt,
-            ),
-            Address::Unscaled { offset } => self.store_by(
-                known,
-                size,
-                Address::Unscaled { offset },
-                x.rn,
-                x.rt,
-            ),
-            Address::PostIndex { offset } => self.store_by(
-                known,
-                size,
-                Address::PostIndex { offset },
-                x.rn,
-                x.rt,
-            ),
-            Address::PreIndex { offset } => self.store_by(
-                known,
-                size,
-                Address::PreIndex { offset },
-                x.rn,
-                x.rt,
-            ),
-            Address::Register { rm, extend, scaled } => self.store_by(
-                known,
-                size,
-                Address::Register { rm, extend, scaled },
-                x.rn,
-                x.rt,
-            ),
         }
     }
 
