@@ -1,6 +1,6 @@
 -- A delivery and the return behind it.
 use Rattle.std.proofs.Common.{◌≡◌, ℕ, suc, ◌+◌, ◌<◌, ◌≤◌, ◌^◌, ◌==◌, Bool, true, false, List, [], ◌∷◌, length, Option, Some, None}
-use Rattle.std.proofs.Common.{refl, ap, sym, ◌∙◌, arith, subst}
+use Rattle.std.proofs.Common.{refl, ap, sym, ◌∙◌, arith, subst, ne_eqb}
 use Rattle.std.specs.Prelude.{◌%◌, Contains, if◌then◌else◌, replicate}
 use Rattle.std.specs.Bool.{beq}
 use Rattle.std.specs.FinMap.{FinMap, get, insert, get-insert}
@@ -68,9 +68,6 @@ module _ (config : Config) (s t : State) where
 
 -- ---- the memory in a handler
 
-not_equal : (n k : ℕ) → (n ≡ k → ⊥) → (n == k) ≡ false
-not_equal n k h = grind (arith, nat_tests)
-
 -- a byte outside of those that are set
 get_outside : (m : FinMap nat_cmp ℕ) (a : ℕ) (bs : List ℕ) (q : ℕ) → ¬ Contains (run_of a (length bs)) q
     → get (set_bytes m a bs) q ≡ get m q
@@ -80,7 +77,7 @@ get_outside m a (b ∷ bs) q out =
     let first : ℕ = a % 2 ^ 64 in
     let rest : List ℕ = run_of (a + 1) (length bs) in
     let has : Contains (first ∷ rest) first = Contains-append_left (first ∷ []) rest first (Contains-push [] first) in
-    let here : (first == q) ≡ false = not_equal first q (λ e. out (subst (Contains (first ∷ rest)) e has)) in
+    let here : (first == q) ≡ false = ne_eqb first q (λ e. out (subst (Contains (first ∷ rest)) e has)) in
     get_outside (insert m first b) (a + 1) bs q (λ c. out (Contains-append_right (first ∷ []) rest q c))
     ∙ rw (get-insert nat_cmp_total, eq_by_cmp-nat, here) refl
 
