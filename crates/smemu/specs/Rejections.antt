@@ -1,5 +1,6 @@
 -- What a file is to be, how it is judged, why it is not accepted as that, and how that is told.
-use Rattle.std.specs.Prelude.{ℕ, List, [], ◌∷◌, Option, Some, None, option_map, Result, Ok, Err}
+use Rattle.sm_types.specs.declared.limits.TheConstants.{FILE_LIMIT}
+use Rattle.std.specs.Prelude.{ℕ, ◌+◌, List, [], ◌∷◌, Option, Some, None, option_map, Result, Ok, Err}
 use Rattle.cmd_words.specs.Words.{Request}
 use Rattle.asm_core.specs.Faults.{asm_fault}
 use Rattle.elf_loader.specs.Loading.{load_fault}
@@ -49,13 +50,13 @@ pub data Kind : Type 0 where
 
 -- how many bytes are fetched: one more than it may have
 abbrev pub limit_of : Kind → ℕ
-limit_of ProgramFile = 67108865
-limit_of SourceFile = 67108865
+limit_of ProgramFile = FILE_LIMIT + 1
+limit_of SourceFile = FILE_LIMIT + 1
 limit_of ReportFile = 1073741825
-limit_of PlanFile = 67108865
-limit_of ScriptFile = 67108865
-limit_of CheckpointFile = 67108865
-limit_of VectorsFile = 67108865
+limit_of PlanFile = FILE_LIMIT + 1
+limit_of ScriptFile = FILE_LIMIT + 1
+limit_of CheckpointFile = FILE_LIMIT + 1
+limit_of VectorsFile = FILE_LIMIT + 1
 
 -- the fault of a reading
 abbrev pub fault_in : {A F : Type 0} → Result A F → Option F

@@ -32,13 +32,13 @@ use paged_memory::Image;
 use plan_reader::read_plan;
 use report_reader::{Report, ReportFault, read_report};
 use script_reader::{DebugCommand, read_script};
-use sm_types::{Object, VecLen, WorldEvent};
+use sm_types::{FILE_LIMIT, Object, VecLen, WorldEvent};
 use std::alloc::Global;
 use vector_runner::{Vector, VectorFault, read_vectors};
 
 /// A file of more bytes than a program file, a source, a plan, a script, a checkpoint or a file of vectors
 /// may have is fetched up to its first byte too many.
-const FETCH_LIMIT: u64 = 67_108_865;
+const FETCH_LIMIT: u64 = FILE_LIMIT as u64 + 1;
 
 /// The same of a report.
 const REPORT_LIMIT: u64 = 1_073_741_825;
