@@ -14,7 +14,7 @@ use Rattle.sm_types.specs.declared.version.Version.{Version}
 use Rattle.sm_types.specs.declared.version.Version.TheVariants.{One, Two}
 use Rattle.sm_types.specs.Options.{version_of}
 use Rattle.paged_memory.specs.Memory.{AddressSpace, run_of, set_bytes}
-use Rattle.paged_memory.proofs.Over.{eq_by_cmp-nat}
+use Rattle.plain_lemmas.proofs.Tests.{eq_by_cmp-nat}
 use Rattle.mem_access.specs.Runs.{with_bytes}
 use Rattle.za_array.specs.Array.{zero_vectors}
 use Rattle.machine_step.specs.ProcessorState.{ProcessorState, vector_bytes}
