@@ -5,4 +5,4 @@ pub mod Later
 pub mod Ways
 pub mod Tails
 pub mod Can
-pub mod Returning
+pub mod AtOnce

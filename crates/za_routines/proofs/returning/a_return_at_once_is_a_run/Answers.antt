@@ -16,8 +16,8 @@ use Rattle.kernel_contexts.proofs.Calls.{SeesNoMode, back_to, call_returns, retu
 use Rattle.kernel_contexts.proofs.Signals.{of_signal}
 use Rattle.kernel_contexts.proofs.Turns.{turn_executes, executes_calls}
 use Rattle.kernel_contexts.proofs.Watched.{due_below}
-use Rattle.za_routines.proofs.Returning.{IsDelivered, is_delivered, at_frame, array_inside, memory_inside, bytes_inside}
-use Rattle.za_routines.proofs.Returning.{least_signal, most_signal, saveable, may_return}
+use Rattle.za_routines.proofs.AtOnce.{IsDelivered, is_delivered, at_frame, array_inside, memory_inside, bytes_inside}
+use Rattle.za_routines.proofs.AtOnce.{least_signal, most_signal, saveable, may_return}
 use Rattle.za_routines.proofs.returning.a_return_at_once_is_a_run.Goals as goal
 
 pub returns : goal.returns
