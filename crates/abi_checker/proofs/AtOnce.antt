@@ -2,7 +2,7 @@
 use Rattle.std.proofs.Common.{inl, inr, ◌≡◌, ℕ, zero, suc, ◌+◌, ◌-◌, ◌<◌, ◌≤◌, List, length, Option, Some, None, true, refl}
 use Rattle.std.proofs.Common.{ap, sym}
 use Rattle.std.proofs.Common.{◌∙◌, subst, arith, Bool, false}
-use Rattle.std.specs.Prelude.{is_some, min, IfOk, IfSome, IfNone, MatchOption, Result, Ok, Err}
+use Rattle.std.specs.Prelude.{is_some, IfOk, IfSome, IfNone, MatchOption, Result, Ok, Err}
 use Rattle.plain_lemmas.proofs.Numbers.{cases_lt_eq_gt}
 use Rattle.plain_lemmas.proofs.Options.{is_some-false}
 use Rattle.sm_types.specs.declared.config.Config.{Config}
@@ -296,8 +296,8 @@ pub one_told : (program : Program) (config : Config) (thread : ℕ) (journal : L
     → IsUnderWay run (suc m) later now)
     (whole : IsWholeWith (vector_bytes (config_of new).svl) (state_of new).core) → (end.count ≡ 0 → ⊥)
     → IsFollowed program config thread journal count new ticket later now
-one_told program config thread journal count old ticket same is watch h halts new end most told e counts few single call past none later now
-    tells whole some =
+one_told program config thread journal count old ticket same is watch h halts new end most told e counts few single call past none
+    later now tells whole some =
     let run = states_of program config thread journal in
     let here = h.way.turns in
     let state = now_state program config thread journal count old ticket same is watch None h in
@@ -308,7 +308,8 @@ one_told program config thread journal count old ticket same is watch h halts ne
     let first : here + k.0 ≡ here = omega (arith, k.1, made, single) in
     let less : k.0 < end.count = omega (arith, k.1) in
     let grows = counted.counts k.0 less in
-    round_told program config thread journal count old ticket same is watch None h halts new end most told e counts few call later now tells whole k.0 k.1 (subst (λ i. IsWatched run i watch) (sym first) h.told)
+    round_told program config thread journal count old ticket same is watch None h halts new end most told e counts few call later now
+    tells whole k.0 k.1 (subst (λ i. IsWatched run i watch) (sym first) h.told)
     (subst (λ i. IsPast (run i) (run (here + suc k.0)) call) (sym first)
     (past_counted (run here) (run (here + suc k.0)) call
     (subst (λ (s : State). IfSome call (λ past. IsNextCall s past)) (sym state) past)
