@@ -2,7 +2,7 @@
 use Rattle.std.proofs.Common.{inl, inr, ◌≡◌, ℕ, zero, suc, ◌+◌, ◌-◌, ◌<◌, ◌≤◌, List, length, Option, Some, None, true, refl}
 use Rattle.std.proofs.Common.{ap, sym}
 use Rattle.std.proofs.Common.{◌∙◌, subst, arith, Bool, false}
-use Rattle.std.specs.Prelude.{is_some, min, IfOk, IfSome, IfNone, MatchOption, Result, Ok, Err}
+use Rattle.std.specs.Prelude.{is_some, IfOk, IfSome, IfNone, MatchOption, Result, Ok, Err}
 use Rattle.plain_lemmas.proofs.Numbers.{cases_lt_eq_gt}
 use Rattle.plain_lemmas.proofs.Options.{is_some-false}
 use Rattle.sm_types.specs.declared.config.Config.{Config}
@@ -250,16 +250,16 @@ module _ (program : Program) (config : Config) (thread : ℕ) (journal : List Ev
 -- none of the turns is halted before: nothing is to be told but in the last state, to which none is a call
 pub quiet_told : (program : Program) (config : Config) (thread : ℕ) (journal : List Event) (count : ℕ) (old : Context)
     (ticket : ReplayEvents) (same : config_of old ≡ config) (is : thread_of old ≡ thread) (watch : Watch)
-    (h : IsFollowed program config thread journal count old ticket watch None) (near : List Bool) (alike : near ≡ watch.near)
-    (new : Context) (end : Made) (told : ℕ) (e : AdvancesSeveral (λ pc word. halts_for near pc word) (count - told) old new end)
+    (h : IsFollowed program config thread journal count old ticket watch None) (new : Context) (end : Made) (told : ℕ)
+    (e : AdvancesSeveral (λ pc word. halts_for watch.near pc word) (count - told) old new end)
     (counts : told ≡ (state_of old).count) (later : Watch) (now : Option Abi)
     (tells : (run : ℕ → State) (m : ℕ) → IsWatched run m watch → run (suc m) ≡ state_of new
     → IsPast (run m) (run (suc m)) None → (run m).count ≤ (run (suc m)).count → IsWholeAt run (suc m)
     → IsUnderWay run (suc m) later now)
     (whole : IsWholeWith (vector_bytes (config_of new).svl) (state_of new).core) → (end.count ≡ 0 → ⊥)
     → IsFollowed program config thread journal count new ticket later now
-quiet_told program config thread journal count old ticket same is watch h near alike new end told e counts later now tells whole some =
-    let halts : ℕ → ℕ → Bool = λ pc word. halts_for near pc word in
+quiet_told program config thread journal count old ticket same is watch h new end told e counts later now tells whole some =
+    let halts : ℕ → ℕ → Bool = λ pc word. halts_for watch.near pc word in
     let used = length (journal_of old) in
     let run = states_of program config thread journal in
     let own =
@@ -270,9 +270,8 @@ quiet_told program config thread journal count old ticket same is watch h near a
     (omega arith) in
     let free : (j : ℕ) → j < end.count → halts_before (halts_for watch.near) (run (h.way.turns + j)) ≡ false =
     λ j l.
-    subst (λ (n : List Bool). halts_before (halts_for n) (run (h.way.turns + j)) ≡ false) alike
-    (free_each program config thread journal h.way.turns used ticket.ahead (state_of old) h.way.at halts end.count (state_of new) own j
-    l) in
+    free_each program config thread journal h.way.turns used ticket.ahead (state_of old) h.way.at halts end.count (state_of new) own j
+    l in
     let k = one_more end.count some in
     let less : k.0 < end.count = omega (arith, k.1) in
     round_told program config thread journal count old ticket same is watch None h halts new end (count - told) told e counts
@@ -280,33 +279,37 @@ quiet_told program config thread journal count old ticket same is watch h near a
     (watched_each config thread used run h.way.turns end.count counted watch free h.told k.0 less)
     (no_mark config thread used run h.way.turns end.count counted watch free k.0 less)
 
+-- a fault that is none
+pub under_none : (run : ℕ → State) (n : ℕ) (watch : Watch) (found : Option Abi) → found ≡ None → IsUnderWay run n watch None
+    → IsUnderWay run n watch found
+under_none run n watch found none h = subst (λ o. IsUnderWay run n watch o) (sym none) h
+
 -- the one turn is that of a call, or of none
 pub one_told : (program : Program) (config : Config) (thread : ℕ) (journal : List Event) (count : ℕ) (old : Context)
     (ticket : ReplayEvents) (same : config_of old ≡ config) (is : thread_of old ≡ thread) (watch : Watch)
     (h : IsFollowed program config thread journal count old ticket watch None) (halts : ℕ → ℕ → Bool) (new : Context) (end : Made)
     (most told : ℕ) (e : AdvancesSeveral halts most old new end) (counts : told ≡ (state_of old).count)
-    (few : most ≡ min (count - told) 1) (call : Option ℕ) → IfSome call (λ past. IsNextCall (state_of old) past)
+    (few : most ≤ count - told) (single : most ≤ 1) (call : Option ℕ) → IfSome call (λ past. IsNextCall (state_of old) past)
     → IfNone call (IsNoCall (state_of old)) → (later : Watch) (now : Option Abi)
     (tells : (run : ℕ → State) (m : ℕ) → IsWatched run m watch → run (suc m) ≡ state_of new
     → IsPast (run m) (run (suc m)) call → (run m).count ≤ (run (suc m)).count → IsWholeAt run (suc m)
     → IsUnderWay run (suc m) later now)
     (whole : IsWholeWith (vector_bytes (config_of new).svl) (state_of new).core) → (end.count ≡ 0 → ⊥)
     → IsFollowed program config thread journal count new ticket later now
-one_told program config thread journal count old ticket same is watch h halts new end most told e counts few call past none later now
-    tells whole some =
+one_told program config thread journal count old ticket same is watch h halts new end most told e counts few single call past none
+    later now tells whole some =
     let run = states_of program config thread journal in
     let here = h.way.turns in
     let state = now_state program config thread journal count old ticket same is watch None h in
     let counted =
-    counted_turns program config thread journal count old ticket same is watch None h halts new end most told e counts
-    (omega (arith, few)) in
+    counted_turns program config thread journal count old ticket same is watch None h halts new end most told e counts few in
     let made = e.few in
     let k = one_more end.count some in
-    let first : here + k.0 ≡ here = omega (arith, k.1, made, few) in
+    let first : here + k.0 ≡ here = omega (arith, k.1, made, single) in
     let less : k.0 < end.count = omega (arith, k.1) in
     let grows = counted.counts k.0 less in
-    round_told program config thread journal count old ticket same is watch None h halts new end most told e counts
-    (omega (arith, few)) call later now tells whole k.0 k.1 (subst (λ i. IsWatched run i watch) (sym first) h.told)
+    round_told program config thread journal count old ticket same is watch None h halts new end most told e counts few call later now
+    tells whole k.0 k.1 (subst (λ i. IsWatched run i watch) (sym first) h.told)
     (subst (λ i. IsPast (run i) (run (here + suc k.0)) call) (sym first)
     (past_counted (run here) (run (here + suc k.0)) call
     (subst (λ (s : State). IfSome call (λ past. IsNextCall s past)) (sym state) past)
@@ -387,9 +390,9 @@ pub quiet_followed : (first old : Context) (far : GoesFar first old) (journal : 
     (watch : Watch) (h : IsFollowed (image_of first) (config_of first) (thread_of first) journal count old ticket watch None)
     (new : Context) (later : Watch) (found : Option Abi)
     (on : IsFollowed (image_of old) (config_of old) (thread_of old) journal count old ticket watch None
-    → IsFollowed (image_of old) (config_of old) (thread_of old) journal count new ticket later found) → is_some found ≡ false
+    → IsFollowed (image_of old) (config_of old) (thread_of old) journal count new ticket later found) → found ≡ None
     → IsFollowed (image_of first) (config_of first) (thread_of first) journal count new ticket later None
 quiet_followed first old far journal count ticket watch h new later found on quiet =
-    found_none (image_of first) (config_of first) (thread_of first) journal count new ticket later found quiet
+    subst (λ o. IsFollowed (image_of first) (config_of first) (thread_of first) journal count new ticket later o) quiet
     (first_followed first old far journal count ticket watch None h new later found
     (on (own_followed first old far journal count ticket watch None h)))

@@ -9,6 +9,7 @@ pub mod WholeStates
 pub mod Next
 pub mod Followed
 pub mod Went
+pub mod Slots
 pub mod Settled
 pub mod Lawful
 pub mod Rows

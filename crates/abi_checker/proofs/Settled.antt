@@ -1,8 +1,8 @@
 -- Calls of which none is back, and what is told of them.
 use Rattle.std.proofs.Common.{◌≡◌, ℕ, suc, ◌+◌, ◌<◌, subst, List, [], ◌∷◌, length, get_or, filter, cond, refl, ap, sym, ◌∙◌}
 use Rattle.std.proofs.Common.{arith, Bool, true, false}
-use Rattle.std.specs.Prelude.{not, ◌==◌, ◌++◌, slice_index_or, slice_set}
-use Rattle.std.proofs.lemmas.List.{get_or-set_same, get_or-set_other, get_or_default}
+use Rattle.std.specs.Prelude.{not, ◌==◌, ◌++◌}
+use Rattle.std.proofs.lemmas.List.{get_or_default}
 use Rattle.std.proofs.lemmas.List.Elements.{All-push}
 use Rattle.std.proofs.lemmas.Bool.{cases_Bool, eqb-true, not_from_false, both_ways}
 use Rattle.std.proofs.Common.{inl, inr}
@@ -10,7 +10,8 @@ use Rattle.plain_lemmas.proofs.Numbers.{cases_lt_eq_gt}
 use Rattle.kernel_contexts.specs.State.{State}
 use Rattle.abi_checker.specs.Returning.{is_back, IsFine}
 use Rattle.abi_checker.specs.Watching.{AreNear, Settles}
-use Rattle.abi_checker.specs.Near.{is_near, slot_of}
+use Rattle.abi_checker.specs.Near.{is_near}
+use Rattle.abi_checker.specs.declared.near.Near.{Near}
 use Rattle.abi_checker.specs.declared.open_call.OpenCall.{OpenCall}
 use Rattle.abi_checker.specs.declared.watch.Watch.{Watch}
 use Rattle.abi_checker.proofs.Next.{both}
@@ -23,7 +24,7 @@ all_kept keeps (call ∷ calls) h =
     ap (λ l. call ∷ l) rest ∙ sym (ap (λ b. cond b (call ∷ filter keeps calls) (filter keeps calls)) (h 0 call (omega arith)))
 
 -- a state whose PC is near no call is back from none
-pub away : (r : State) (near : List Bool) (call : OpenCall) → is_near near call.places.tail ≡ true
+pub away : (r : State) (near : Near) (call : OpenCall) → is_near near call.places.tail ≡ true
     → is_near near r.core.scalars.pc ≡ false → is_back r call ≡ false
 away r near call there here = elim (cases_Bool (is_back r call)) [
   | inl back ↦
@@ -58,17 +59,8 @@ fine_more r calls n call before is below fine k d l = elim (cases_lt_eq_gt k n) 
 
 -- ---- one call more
 
-slot_set : (near : List Bool) (slot q : ℕ) → slot < length near → slice_index_or near q false ≡ true
-    → slice_index_or (slice_set near slot true) q false ≡ true
-slot_set near slot q l h = elim (cases_lt_eq_gt q slot) [
-  | inl less ↦ get_or-set_other near slot q true false (λ e. absurd (omega (arith, less, e))) ∙ h
-  | inr (inl same) ↦ ap (λ i. slice_index_or (slice_set near slot true) i false) same ∙ get_or-set_same near slot true false l
-  | inr (inr more) ↦ get_or-set_other near slot q true false (λ e. absurd (omega (arith, more, e))) ∙ h
-]
-
-pub near_more : (near : List Bool) (calls : List OpenCall) (call : OpenCall) (slot : ℕ) → slot < length near
-    → slot ≡ slot_of call.places.tail → AreNear near calls → AreNear (slice_set near slot true) (calls ++ call ∷ [])
-near_more near calls call slot l e h =
-    All-push (λ (x : OpenCall). is_near (slice_set near slot true) x.places.tail ≡ true) calls call
-    (λ k d below. slot_set near slot (slot_of (get_or calls k d).places.tail) l (h k d below))
-    (ap (λ i. slice_index_or (slice_set near slot true) i false) (sym e) ∙ get_or-set_same near slot true false l)
+pub near_more : (old new : Near) (calls : List OpenCall) (call : OpenCall) → is_near new call.places.tail ≡ true
+    → ((other : ℕ) → is_near old other ≡ true → is_near new other ≡ true) → AreNear old calls → AreNear new (calls ++ call ∷ [])
+near_more old new calls call here others h =
+    All-push (λ (x : OpenCall). is_near new x.places.tail ≡ true) calls call
+    (λ k d below. others (get_or calls k d).places.tail (h k d below)) here

@@ -6,6 +6,7 @@ pub mod Checked
 pub mod Brought
 pub mod Keeping
 pub mod Returning
+pub mod Slots
 pub mod Near
 pub mod Halting
 pub mod Watching

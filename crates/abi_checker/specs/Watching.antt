@@ -12,6 +12,7 @@ use Rattle.abi_checker.specs.Whole.{AreWhole}
 use Rattle.abi_checker.specs.Near.{is_near}
 use Rattle.abi_checker.specs.Keeping.{IsKept}
 use Rattle.abi_checker.specs.Returning.{is_back, IsFine}
+use Rattle.abi_checker.specs.declared.near.Near.{Near}
 use Rattle.abi_checker.specs.declared.abi.AbiKind.{AbiKind}
 use Rattle.abi_checker.specs.declared.abi.AbiKind.TheVariants.{NotDormant, NotLawful, TooDeep}
 use Rattle.abi_checker.specs.declared.open_call.OpenCall.{OpenCall}
@@ -40,7 +41,7 @@ IsPast s t None = (p : Places) → ¬ IsMarkedCall p s t
 -- ---- the places to which calls come back
 
 -- each call comes back to such a one
-abbrev pub AreNear : List Bool → List OpenCall → Type 0
+abbrev pub AreNear : Near → List OpenCall → Type 0
 AreNear near calls = All (λ call. is_near near call.places.tail ≡ true) calls
 
 -- no call that is back in the state had a callee that was not lawful, and the calls are now the others

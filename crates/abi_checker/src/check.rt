@@ -33,8 +33,8 @@ fn call_made(call: Option<u64>, before: u32, now: u32) -> Option<u64>
 /// How turns that were made at once ended.
 #[derive(Clone, Copy)]
 struct Pause {
-    /// The fault that was told in the last state.
-    found: Option<Abi>,
+    /// Whether a fault was told in the last state.
+    told: bool,
     /// The word at PC, if it was told to halt before it.
     halt: Option<u32>,
 }
@@ -43,57 +43,70 @@ struct Pause {
 /// is anything to be told. It ends too where the next turn may be more than an instruction, and at the count.
 /// `Memory` is want of memory.
 #[inline]
-fn go_to_halt(context: &mut Context, count: u32, watch: &mut Watch) -> Result<Pause, Memory>
+fn go_to_halt(
+    context: &mut Context,
+    count: u32,
+    watch: &mut Watch,
+    found: &mut Option<Abi>,
+) -> Result<Pause, Memory>
     requires home { is_home context.old ≡ true }
     requires runs { stop_of context.old ≡ None }
+    requires none { found.old ≡ None }
     requires some { IsFollowedBySome count context.old watch.old None }
     ensures followed { (journal : List Event) (ticket : ReplayEvents)
         → IsFollowed (image_of context.old) (config_of context.old) (thread_of context.old) journal count
         context.old ticket watch.old None
         → IfOk result (λ pause. IsFollowed (image_of context.old) (config_of context.old)
-        (thread_of context.old) journal count context.new ticket watch.new pause.found) }
+        (thread_of context.old) journal count context.new ticket watch.new found.new) }
+    ensures quiet { IfOk result (λ pause. pause.told ≡ false → found.new ≡ None) }
     ensures goes { GoesFar context.old context.new }
     ensures there { IfOk result (λ pause. IfSome pause.halt (IsNextWord (state_of context.new))) }
 {
     let left = count - context.count();
-    let made = context.advance_several(&watch.halting(), left);
+    let made = context.advance_several(&watch.near, left);
     let halt = made.halt;
     if made.count == 0 {
-        return Ok(Pause { found: None, halt });
+        return Ok(Pause { told: false, halt });
     }
     context_is_whole(context);
-    let found = watch.tell(context, None, None)?;
-    Ok(Pause { found, halt })
+    let told = watch.look(context, None, found)?;
+    Ok(Pause { told, halt })
 }
 
 /// Makes the turn of the instruction of that word, which stands at PC, and tells of the state after it. None is
-/// made where it may be more than an instruction, and at the count. `Memory` is want of memory.
+/// made where it may be more than an instruction, and at the count. It tells whether a fault was found. `Memory`
+/// is want of memory.
 #[inline]
 fn make_halted(
     context: &mut Context,
     count: u32,
     watch: &mut Watch,
+    found: &mut Option<Abi>,
     word: u32,
-) -> Result<Option<Abi>, Memory>
+) -> Result<bool, Memory>
     requires home { is_home context.old ≡ true }
     requires runs { stop_of context.old ≡ None }
+    requires none { found.old ≡ None }
     requires some { IsFollowedBySome count context.old watch.old None }
     requires there { IsNextWord (state_of context.old) word }
     ensures followed { (journal : List Event) (ticket : ReplayEvents)
         → IsFollowed (image_of context.old) (config_of context.old) (thread_of context.old) journal count
         context.old ticket watch.old None
-        → IfOk result (λ found. IsFollowed (image_of context.old) (config_of context.old)
-        (thread_of context.old) journal count context.new ticket watch.new found) }
+        → IfOk result (λ told. IsFollowed (image_of context.old) (config_of context.old)
+        (thread_of context.old) journal count context.new ticket watch.new found.new) }
+    ensures quiet { IfOk result (λ told. told ≡ false → found.new ≡ None) }
     ensures goes { GoesFar context.old context.new }
 {
-    let left = count - context.count();
+    if context.count() == count {
+        return Ok(false);
+    }
     let call = call_at(context, word);
-    let made = context.advance_several(&Never, left.min(1));
+    let made = context.advance_several(&Never, 1);
     if made.count == 0 {
-        return Ok(None);
+        return Ok(false);
     }
     context_is_whole(context);
-    watch.tell(context, call, None)
+    watch.look(context, call, found)
 }
 
 /// Makes turns at once, from one halt to the next, and tells of the calls in their states, as long as none is
@@ -110,17 +123,18 @@ fn go_at_once(context: &mut Context, count: u32, watch: &mut Watch) -> Result<Op
         (thread_of context.old) journal count context.new ticket watch.new found) }
     ensures goes { GoesFar context.old context.new }
 {
+    let mut found = None;
     'rounds: loop {
-        let pause = go_to_halt(context, count, watch)?;
-        if pause.found.is_some() {
-            return Ok(pause.found);
+        let pause = go_to_halt(context, count, watch, &mut found)?;
+        if pause.told {
+            return Ok(found);
         }
         let Some(word) = pause.halt else {
             return Ok(None);
         };
         let before = context.count();
-        let found = make_halted(context, count, watch, word)?;
-        if found.is_some() {
+        let told = make_halted(context, count, watch, &mut found, word)?;
+        if told {
             return Ok(found);
         }
         if context.count() == before {

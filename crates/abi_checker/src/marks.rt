@@ -85,14 +85,25 @@ fn tail_words(call: u32) -> [u32; 6]
 /// The first word of the tail: SMSTART ZA.
 pub const TAIL_START: u32 = 0xD503_457F;
 
-/// Whether the first word of a tail is at an address; where it is not, there is no tail.
-#[inline(always)]
-fn has_first_word(pages: &Pages, tail: u64) -> bool
+/// Whether the first word of a tail is at an address, by its bytes.
+#[inline(never)]
+fn has_first_bytes(pages: &Pages, tail: u64) -> bool
     ensures { (p : Places) → p.tail ≡ tail → HasMark pages.now.memory p → IsTrue result }
 {
     match word_in(pages, tail) {
         Some(word) => word == TAIL_START,
         None => false,
+    }
+}
+
+/// Whether the first word of a tail is at an address; where it is not, there is no tail.
+#[inline(always)]
+fn has_first_word(pages: &Pages, tail: u64) -> bool
+    ensures { (p : Places) → p.tail ≡ tail → HasMark pages.now.memory p → IsTrue result }
+{
+    match pages.fetch(tail) {
+        Some(word) => word == TAIL_START,
+        None => has_first_bytes(pages, tail),
     }
 }
 

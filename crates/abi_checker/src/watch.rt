@@ -10,9 +10,8 @@ ghost use Rattle.abi_checker.specs.Near.{is_near};
 ghost use Rattle.abi_checker.specs.declared.open_call.OpenCall.{OpenCall};
 
 use crate::abi::{Abi, AbiKind};
-use crate::halting::Halting;
 use crate::marks::{mark_at, may_be_marked};
-use crate::near::{SLOTS, slot_of, slots_of};
+use crate::near::Near;
 use crate::open_call::OpenCall;
 use kernel_contexts::Context;
 use sm_types::Memory;
@@ -29,8 +28,8 @@ pub struct Watch {
     pub calls: Vec<OpenCall>,
     /// How many have.
     pub returned: u32,
-    /// Which slots their tails fall to, and maybe others: at most turns this alone is looked at.
-    pub near: [bool; SLOTS],
+    /// Their tails, and maybe others: at most turns this alone is looked at.
+    pub near: Near,
 }
 
 impl Watch {
@@ -48,7 +47,7 @@ impl Watch {
             alloc,
             calls: Vec::new(alloc),
             returned: 0,
-            near: [false; SLOTS],
+            near: Near::none(),
         }
     }
 
@@ -57,7 +56,7 @@ impl Watch {
     fn is_near(&self, pc: u64) -> bool
         ensures { result ≡ is_near self.now.near pc }
     {
-        self.near[slot_of(pc)]
+        self.near.has(pc)
     }
 
     /// Whether a call returns in the state that the thread has come to, and its callee was not lawful.
@@ -92,7 +91,7 @@ impl Watch {
         let before = self.calls.len();
         self.calls.retain(|call| !call.is_back(context));
         self.returned += (before - self.calls.len()) as u32;
-        self.near = slots_of(self.calls.as_slice());
+        self.near = Near::of_calls(self.calls.as_slice());
     }
 
     /// Takes out the calls that return in the state that the thread has come to; tells whether the callee of
@@ -137,16 +136,8 @@ impl Watch {
             return Ok(Some(AbiKind::TooDeep));
         }
         self.calls.push(call).map_err(|_| Memory)?;
-        self.near[slot_of(places.tail)] = true;
+        self.near.add(places.tail);
         Ok(None)
-    }
-
-    /// Where turns that are made at once are to halt: before each call, and where one may come back.
-    #[inline]
-    pub fn halting(&self) -> Halting
-        ensures { result.near ≡ self.now.near }
-    {
-        Halting { near: self.near }
     }
 
     /// Goes on to the state that the thread has come to by its turn, which was a call if there is an address
@@ -214,6 +205,51 @@ impl Watch {
             return Ok(found);
         }
         self.tell_there(context, past, found)
+    }
+
+    /// Goes on so after turns of which nothing was told, puts the fault there, if there is one, into `found`, and
+    /// tells whether it did.
+    #[inline(never)]
+    fn look_there(
+        &mut self,
+        context: &Context,
+        past: Option<u64>,
+        found: &mut Option<Abi>,
+    ) -> Result<bool, Memory>
+        requires home { is_home context.now ≡ true }
+        requires somewhere { IsSomewhereWith self.old None }
+        ensures told { (run : ℕ → State) (n : ℕ) → IsWatched run n self.old
+            → run (suc n) ≡ state_of context.now → IsPast (run n) (run (suc n)) past
+            → (run n).count ≤ (run (suc n)).count → IsWholeAt run (suc n)
+            → IfOk result (λ told. IsUnderWay run (suc n) self.new found.new) }
+        ensures quiet { IfOk result (λ told. told ≡ false → found.new ≡ None) }
+    {
+        let told = self.tell_there(context, past, None)?;
+        *found = told;
+        Ok(told.is_some())
+    }
+
+    /// The same; at most turns nothing is to be told, as in `tell`.
+    #[inline(always)]
+    pub fn look(
+        &mut self,
+        context: &Context,
+        past: Option<u64>,
+        found: &mut Option<Abi>,
+    ) -> Result<bool, Memory>
+        requires home { is_home context.now ≡ true }
+        requires somewhere { IsSomewhereWith self.old None }
+        requires none { found.old ≡ None }
+        ensures told { (run : ℕ → State) (n : ℕ) → IsWatched run n self.old
+            → run (suc n) ≡ state_of context.now → IsPast (run n) (run (suc n)) past
+            → (run n).count ≤ (run (suc n)).count → IsWholeAt run (suc n)
+            → IfOk result (λ told. IsUnderWay run (suc n) self.new found.new) }
+        ensures quiet { IfOk result (λ told. told ≡ false → found.new ≡ None) }
+    {
+        if self.passes(context, past) {
+            return Ok(false);
+        }
+        self.look_there(context, past, found)
     }
 
     /// Whether nothing is to be told: the turn was no marked call, and no call comes back there.

@@ -1,4 +1,4 @@
-use Rattle.std.proofs.Common.{◌-◌, List, None}
+use Rattle.std.proofs.Common.{◌≡◌, ◌-◌, List, None}
 use Rattle.sm_types.specs.declared.shared_op.Event.{Event}
 use Rattle.shared_region.specs.Ports.{ReplayEvents}
 use Rattle.kernel_contexts.specs.Context.{state_of, config_of, image_of, thread_of}
@@ -13,6 +13,7 @@ invariant-rounds l = record {
       l.initial.context ticket l.initial.watch None
       → IsFollowed (image_of l.initial.context) (config_of l.initial.context) (thread_of l.initial.context) journal l.count
       l.context ticket l.watch None;
+  none : l.found ≡ None;
 }
 
 abbrev pub decreases-rounds : goal.decreases-rounds

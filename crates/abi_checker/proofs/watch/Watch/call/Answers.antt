@@ -1,5 +1,5 @@
 use Rattle.std.proofs.Common.{rules, inl, inr, ◌≡◌, ◌<◌, ◌++◌, ◌∷◌, [], ◌∙◌, refl, sym, ap, subst, arith, length, List, true}
-use Rattle.std.specs.Prelude.{IfSome, slice_set}
+use Rattle.std.specs.Prelude.{IfSome}
 use Rattle.std.proofs.lemmas.List.{length_push}
 use Rattle.machine_step.specs.declared.machine.Machine.{Machine}
 use Rattle.kernel_contexts.specs.Context.{state_of}
@@ -8,7 +8,7 @@ use Rattle.za_routines.specs.declared.places.RoutinePlaces.{RoutinePlaces}
 use Rattle.abi_checker.specs.Marks.{HasMark}
 use Rattle.abi_checker.specs.Keeping.{IsKept}
 use Rattle.abi_checker.specs.Watching.{AreNear, IsMarkedPast}
-use Rattle.abi_checker.specs.Near.{slot_of}
+use Rattle.abi_checker.specs.Near.{is_near}
 use Rattle.abi_checker.specs.declared.open_call.OpenCall.{OpenCall}
 use Rattle.abi_checker.proofs.Settled.{near_more}
 use Rattle.abi_checker.proofs.watch.Watch.call.Goals as goal
@@ -53,8 +53,7 @@ returns-clause-near c =
     let items : c.push.new.self.items ≡ c.args.self.now.calls.items ++ call ∷ [] = search rules in
     let places : call.places ≡ c.in-Some.places =
     subst (λ o. IfSome o (λ (x : OpenCall). x.places ≡ c.in-Some.places)) c.in-Some-2.is c.in_ok-call.ensures.places in
-    let slot : c.slot_of.result ≡ slot_of call.places.tail =
-    c.slot_of.ensures.value ∙ sym (ap (λ (p : RoutinePlaces). slot_of p.tail) places) in
-    let below : c.slot_of.result < length c.args.self.now.near = search rules in
-    subst (λ (l : List OpenCall). AreNear (slice_set c.args.self.now.near c.slot_of.result true) l) (sym items)
-    (near_more c.args.self.now.near c.args.self.now.calls.items call c.slot_of.result below slot c.requires.near)
+    let here : is_near c.add.new.self call.places.tail ≡ true =
+    subst (λ (p : RoutinePlaces). is_near c.add.new.self p.tail ≡ true) (sym places) c.add.ensures.here in
+    subst (λ (l : List OpenCall). AreNear c.add.new.self l) (sym items)
+    (near_more c.args.self.now.near c.add.new.self c.args.self.now.calls.items call here c.add.ensures.others c.requires.near)
