@@ -1,5 +1,5 @@
 //! A run that is checked turn by turn.
-ghost use Rattle.std.specs.Prelude.{◌≡◌, ◌≢◌, ◌<◌, ◌^◌, true, List, [], None, length, nat_lt, if◌then◌else◌};
+ghost use Rattle.std.specs.Prelude.{◌≡◌, ◌≢◌, ◌<◌, ◌^◌, true, false, List, [], None, length, nat_lt, if◌then◌else◌};
 ghost use Rattle.std.specs.Prelude.{IfOk, IfErr, IfSome};
 ghost use Rattle.sm_types.specs.declared.shared_op.Event.{Event};
 ghost use Rattle.shared_region.specs.Ports.{ReplayEvents};
