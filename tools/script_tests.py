@@ -24,6 +24,7 @@ import doc_tests
 import reports
 import show as show_script
 import vectors as vectors_script
+import verbs
 
 TOOLS = pathlib.Path(__file__).resolve().parent
 TOP, SAMPLES = TOOLS.parent, TOOLS / "samples"
@@ -350,10 +351,35 @@ def executing(folder):
         report.write_text(content)
         (folder / "status").write_text(str(status))
         yield what, ran(sys.executable, TOOLS / "execute.py", "any.elf", "--threads", 2, env={**os.environ, "SMEMU": str(smemu)}), wanted
+    yield from executing_words(folder)
     absent = str(folder / "absent")
     yield "no emulator", ran(sys.executable, TOOLS / "execute.py", "any.elf", env={**os.environ, "SMEMU": absent}), (
         125, "", f"{absent}: No such file or directory\n")
-    yield "no program", ran(sys.executable, TOOLS / "execute.py")[0], 125
+
+
+def executing_words(folder):
+    """The options go to `run` from before the program and from behind it, and nothing else does."""
+    smemu = program(folder / "words" / "smemu", f'#!/bin/sh\necho "$@" > "{folder}/words/given"\nexit 8\n')
+
+    def given(*words):
+        (folder / "words" / "given").write_text("nothing\n")
+        status, text, said = ran(sys.executable, TOOLS / "execute.py", *words, env={**os.environ, "SMEMU": str(smemu)})
+        return status, text, said.splitlines()[-1], (folder / "words" / "given").read_text().strip()
+
+    for words in (("any.elf",), ("--svl", 512, "any.elf"), ("any.elf", "--svl", 512), ("--vl", 256, "--svl", 512, "any.elf", "--threads", 2), ("--budget", "any.elf", "any.elf")):
+        at = 2 * (len(words) // 2) if words[0] == "--budget" else words.index("any.elf")
+        wanted = " ".join(map(str, ("run", words[at], *words[:at], *words[at + 1:])))
+        yield f"the words {words}", given(*words), (125, "", "smemu ended with status 8", wanted)
+    for words, said in (
+            (("any.elf", "one"), "one: a guest has no arguments, so after the program only options may stand: --vl"),
+            (("--svl", 512, "any.elf", "--verbose"), "--verbose: a guest has no arguments"),
+            (("--verbose", "any.elf"), "--verbose is no option: --vl --svl --slice --budget --threads --cores; of a file of that name write ./--verbose"),
+            (("any.elf", "--svl"), "--svl has no value"), (("--svl", 512), "there is no PROGRAM"), ((), "there is no PROGRAM")):
+        status, text, last, run_with = given(*words)
+        yield f"the words {words}", (status, text, last[:len(f"execute.py: {said}")], run_with), (125, "", f"execute.py: {said}", "nothing")
+    for word in ("-h", "--help"):
+        status, text, said = ran(sys.executable, TOOLS / "execute.py", word)
+        yield f"execute.py {word}", (status, text.splitlines()[0], said), (0, "usage: execute.py [OPTIONS] PROGRAM [OPTIONS]", "")
 
 
 def make_tree(folder, text):
@@ -381,6 +407,66 @@ def wrapping(folder):
         yield f"status {status}, quietly", ran(folder / "smemu", status, env={**os.environ, "SMEMU_QUIET": "1"}), (status, "the line\n", "")
     yield "--which", ran(folder / "smemu", "--which"), (0, f"{folder}/crates/smemu_cli/out/smemu_cli\n", "")
     yield from marking(folder)
+    yield from helping(folder)
+
+
+# a help in the form of the program's, and of each command what is to be shown of it
+HELP = """smemu runs programs.
+
+commands:
+  run PROGRAM   runs PROGRAM
+  sim PROGRAM PLAN
+                runs PROGRAM by PLAN,
+                on cores
+  dis PROGRAM   lists PROGRAM
+  bench N       runs workload N
+  --help        writes this text
+
+options:
+  --vl BITS     the length
+  --cores N     cores: 1 to 64; else 1
+
+statuses:
+  0   the text was written
+"""
+END = "\nsmemu --help has all commands, and what each exit status says.\n"
+HELPS = {
+    "run": "usage: smemu run PROGRAM [OPTIONS]\n  runs PROGRAM\n\n  --vl BITS     the length\n  --cores N     cores: 1 to 64; else 1\n" + END,
+    "sim": "usage: smemu sim PROGRAM PLAN [OPTIONS]\n  runs PROGRAM by PLAN,\n  on cores\n\n  --vl BITS     the length\n  --cores N     cores: 1 to 64; else 1\n" + END,
+    "dis": "usage: smemu dis PROGRAM\n  lists PROGRAM\n" + END,
+    "bench": "usage: smemu bench N [OPTIONS]\n  runs workload N\n\n  --cores N     cores: 1 to 64; else 1\n" + END,
+}
+
+
+def helping(folder):
+    """The program's help has the scripts below it; that of one command is a part of it; a word of a script starts the script, with the program."""
+    smemu = folder / "smemu"
+    built = program(folder / "crates/smemu_cli/out/smemu_cli", f"#!/bin/sh\n[ $# -eq 1 ] && [ $1 = --help ] && cat << 'END' || echo the program: $@\n{HELP}END\n")
+    program(folder / "tools/verbs.py", "import os, sys\nprint(sys.argv[1:], os.environ.get('SMEMU'))\n")
+    for word in ("--help", "-h", "help"):
+        status, text, said = ran(smemu, word)
+        own, _, scripts = text.partition("\nscripts, ")
+        yield f"the words {word}", (status, own, re.findall(r"(?m)^  ([a-z-]+) ", scripts), "no theorem covers them" in scripts, said), (
+            0, HELP, list(verbs.SCRIPTS), True, "")
+    for command, wanted in HELPS.items():
+        for word in ("--help", "-h"):
+            yield f"{command} {word}", ran(smemu, command, word), (0, wanted, "")
+    for words in (("run", "--help", "--vl"), ("what", "--help"), ("run",), ("--version",), ("--help", "--help")):
+        yield f"the words {words}", ran(smemu, *words), (0, f"the program: {' '.join(words)}\n", "")
+    without = {name: value for name, value in os.environ.items() if name != "SMEMU"}
+    for verb in verbs.SCRIPTS:
+        yield f"the script {verb}", ran(smemu, verb, "a b", "--c", env=without), (0, f"{[verb, 'a b', '--c']} {None if verb == 'show' else built}\n", "")
+    yield "a script and another program", ran(smemu, "when", env={**without, "SMEMU": "other"}), (0, "['when'] other\n", "")
+    for tool in ("bash", "dirname", "readlink"):
+        (folder / "few").mkdir(exist_ok=True)
+        os.symlink(shutil.which(tool), folder / "few" / tool)
+    yield "a script without python3", ran(shutil.which("bash"), smemu, "exec", "any.elf", env={"PATH": folder / "few"}), (
+        125, "", "smemu: exec is a script, and python3 is not there\n")
+    yield "no script", ran(sys.executable, TOOLS / "verbs.py", "run")[0], 1
+    for verb, script in verbs.SCRIPTS.items():
+        for word in ("--help", "-h"):
+            status, text, said = ran(sys.executable, TOOLS / "verbs.py", verb, word)
+            yield f"verbs.py {verb} {word}", (status, re.sub(r"\s+", " ", text)[:len(f"usage: smemu {verb} ")], said), (0, f"usage: smemu {verb} ", "")
 
 
 def marking(folder):

@@ -1,0 +1,196 @@
+#!/usr/bin/env python3
+"""Tries the command as its users have it: the wrapper over the emulator with all its words, and build systems that start programs by `smemu exec`.
+
+    tools/command_tests.py [PROGRAM]
+
+PROGRAM is the emulator; where it is not given it is what ./smemu runs. The options that the help of a command shows are compared with those that the
+emulator takes. The projects of examples/ci are built and run by CMake with CTest, Meson, lit and Cargo, as far as each is there, right ones and ones
+with a fault; what is not there is said. The last line says how many checks there were; the status is 1 where one failed.
+"""
+import os
+import pathlib
+import re
+import shutil
+import subprocess
+import sys
+import tempfile
+
+sys.dont_write_bytecode = True
+import beside_tests
+import doc_tests
+import emulator
+import verbs
+
+TOP = pathlib.Path(__file__).resolve().parent.parent
+# lit is a package of Python, or a part of Debian's llvm-19-tools
+LITS = ("lit", *(f"/usr/lib/llvm-{n}/build/utils/lit/lit.py" for n in range(30, 14, -1)))
+
+
+class Tests(beside_tests.Tests):
+    """A folder with the wrapper over the emulator, the scripts and the examples."""
+
+    def __init__(self, smemu, folder):
+        super().__init__(smemu, folder)
+        doc_tests.make_folder(self.folder, smemu)
+        self.wrapper = self.path("smemu")
+        self.environment = {**{name: value for name, value in os.environ.items() if name != "SMEMU"}, "PATH": f"{self.folder}:{os.environ['PATH']}"}
+
+    def needs(self, *tools):
+        """Tells whether tools are there, and says of the first that is not."""
+        lacking = next((tool for tool in tools if not shutil.which(tool)), None)
+        if lacking:
+            print(f"{lacking} is not there, so what needs it is not tried")
+        return not lacking
+
+
+# the words and their help
+
+
+def commands_of(text):
+    """Each command of the program's help, with the words that follow it, and each option."""
+    commands, _, rest = text.partition("\n\n")[2].partition("\n\n")
+    options = re.findall(r"(?m)^  (--\w+) [A-Z]+ ", rest)
+    return {name: words.split() for name, words in re.findall(r"(?m)^  ([a-z][a-z-]*)((?: [A-Z]+)*)(?:  |$)", commands)}, options
+
+
+def try_helps(tests):
+    """The help of each command shows exactly the options that the emulator takes; each script has a help."""
+    whole = tests.run(tests.smemu, "--help")[1]
+    commands, options = commands_of(whole)
+    tests.check("commands and options", [len(commands) > 10, len(options)], [True, 6])
+    shown = tests.run(tests.wrapper, "--help")[1]
+    tests.check("--help", [shown.startswith(whole), re.findall(r"(?m)^  ([a-z-]+) ", shown[len(whole):])], [True, list(verbs.SCRIPTS)])
+    tests.check("scripts and commands", set(commands) & set(verbs.SCRIPTS), set())
+    for name, words in commands.items():
+        given = ["1" if word in ("N", "THREAD", "COUNT") else "absent" for word in words]
+        taken = [option for option in options if "badnumber" in tests.run(tests.smemu, name, *given, option, "x")[1]]
+        status, text = tests.run(tests.wrapper, name, "--help")
+        first = " ".join(["usage: smemu", name, *words, *["[OPTIONS]"] * bool(taken)])
+        tests.check(f"{name} --help", [status, text.splitlines()[0], re.findall(r"(?m)^  (--\w+) ", text)], [0, first, taken])
+        tests.check(f"{name} -h", tests.run(tests.wrapper, name, "-h"), (0, text))
+    for verb in verbs.SCRIPTS:
+        status, text = tests.run(tests.wrapper, verb, "--help")
+        tests.check(f"{verb} --help", [status, text.startswith(f"usage: smemu {verb} ")], [0, True])
+
+
+def try_scripts(tests):
+    """A script that is started by its word says what it says by its path."""
+    program = tests.assemble("hello", (TOP / "examples/hello.s").read_text())
+    whole = tests.report(program, "hello")
+    for words in (("exec", "hello.elf"), ("exec", "--svl", 512, "hello.elf", "--vl", 256), ("show", "hello.report"), ("when", program, whole, 0, "x", 0),
+                  ("refused", "hello.elf"), ("outcomes", "hello.elf", "--plans", ""), ("za-calls", program, whole)):
+        script = tests.folder / "tools" / f"{verbs.SCRIPTS[words[0]]}.py"
+        tests.check(f"smemu {words[0]}", tests.run(tests.wrapper, *words), tests.run(script, *words[1:]))
+    tests.check("smemu exec", tests.run(tests.wrapper, "exec", "hello.elf"), (0, "Hello, SME!!\n"))
+    status, said = tests.run(tests.wrapper, "exec", "--svl", 100, "hello.elf")
+    tests.check("a length that is none", [status, said], [125, "smemu exec: --svl 100: outofrange\n"])
+    tests.check("an option that stands twice", tests.run(tests.wrapper, "exec", "--vl", 128, "hello.elf", "--vl", 256), (125, "smemu exec: --vl 256: repeated\n"))
+
+
+# build systems
+
+
+def try_cmake(tests):
+    """CTest runs a target by the toolchain file's emulator; a wrong program, and one that is given a word, fail."""
+    if not tests.needs("cmake", "ctest", "ninja", "clang-19", "ld.lld-19"):
+        return
+    for name, defines, given, wanted in (("right", "", "check", "100% tests passed, 0 tests failed out of 6"), ("wrong", "-DWRONG", "check", "0% tests passed, 6 tests failed out of 6"),
+                                         ("given", "", "check one", "83% tests passed, 1 tests failed out of 6")):
+        lists = tests.folder / "examples/ci/cmake/CMakeLists.txt"
+        text = lists.read_text()
+        lists.write_text(text.replace("add_test(NAME check COMMAND check)", f"add_test(NAME check COMMAND {given})"))
+        made = tests.run("cmake", "-G", "Ninja", "-S", "examples/ci/cmake", "-B", name, "-DCMAKE_TOOLCHAIN_FILE=smemu.cmake", f"-DCMAKE_C_FLAGS={defines} -ffreestanding -fno-pic")
+        tests.check(f"cmake, {name}", made[0], 0)
+        built = tests.run("cmake", "--build", name)
+        tests.check(f"cmake --build, {name}", [built[0], built[0] and built[1]], [0, 0])
+        status, said = tests.run("ctest", "--test-dir", name, "--output-on-failure")
+        lists.write_text(text)
+        tests.check(f"ctest, {name}", [status == 0, re.findall(r"(?m)^\d+% tests .*", said), "one: a guest has no arguments" in said],
+                    [name == "right", [wanted], name == "given"])
+
+
+def try_meson(tests):
+    """`meson test` runs a program by the cross file's wrapper, with options of `run` behind it."""
+    if not tests.needs("meson", "ninja", "clang-19", "ld.lld-19", "llvm-ar-19"):
+        return
+    for name, defines, wanted in (("meson-right", "", ("6", "0")), ("meson-wrong", "-DWRONG", ("0", "6"))):
+        file = tests.folder / "examples/ci/meson/meson.build"
+        text = file.read_text()
+        file.write_text(text.replace("c_args: ['-march=armv8.1-a',", f"c_args: ['{defines}', '-march=armv8.1-a',") if defines else text)
+        made = tests.run("meson", "setup", "--cross-file", "examples/ci/meson/smemu.ini", name, "examples/ci/meson")
+        tests.check(f"meson setup, {name}", [made[0], made[0] and made[1]], [0, 0])
+        status, said = tests.run("meson", "test", "-C", name)
+        file.write_text(text)
+        tests.check(f"meson test, {name}", [status == 0, re.findall(r"(?m)^(?:Ok|Fail): +(\d+)", said)], [not defines, list(wanted)])
+
+
+def try_lit(tests):
+    """lit compiles, runs and tells the test that is wrong."""
+    found = next((lit for lit in LITS if shutil.which(lit)), None)
+    if not found:
+        print("lit is not there, so what needs it is not tried")
+    if not found or not tests.needs("clang-19", "ld.lld-19"):
+        return
+    status, said = tests.run(found, "examples/ci/lit")
+    tests.check("lit", [status, re.findall(r"(?m)^  (\w+) *: (\d+)", said)], [0, [("Passed", "2")]])
+    (tests.folder / "examples/ci/lit/wrong.c").write_text((TOP / "examples/ci/lit/sum.c").read_text().replace("36", "37"))
+    status, said = tests.run(found, "examples/ci/lit")
+    tests.check("lit with a wrong test", [status, re.findall(r"(?m)^  (\w+) *: (\d+)", said)], [1, [("Passed", "2"), ("Failed", "1")]])
+
+
+# a program of Rust without its library, which is not there for the target unless it is installed; so the words that it needs are said here
+RUST = """#![feature(no_core, lang_items, rustc_attrs, decl_macro)]
+#![no_core]
+#![no_main]
+#![allow(internal_features)]
+#[lang = "pointee_sized"]
+pub trait PointeeSized {}
+#[lang = "meta_sized"]
+pub trait MetaSized: PointeeSized {}
+#[lang = "sized"]
+pub trait Sized: MetaSized {}
+#[lang = "copy"]
+pub trait Copy {}
+impl Copy for u64 {}
+#[rustc_builtin_macro]
+macro_rules! global_asm { () => {}; }
+global_asm!(".globl _start", "_start: bl answer", "mov x8, #93", "svc #0");
+#[no_mangle]
+pub extern "C" fn answer() -> u64 { 42 }
+"""
+
+
+def try_cargo(tests):
+    """`cargo run` starts what it made by the runner, and a word that the program is given is refused."""
+    if not tests.needs("cargo"):
+        return
+    crate = tests.path("crate")
+    for name, text in (("Cargo.toml", '[package]\nname = "answer"\nversion = "0.1.0"\nedition = "2021"\n[profile.dev]\npanic = "abort"\n'), ("src/main.rs", RUST),
+                       (".cargo/config.toml", (TOP / "examples/ci/cargo.toml").read_text())):
+        (crate / name).parent.mkdir(parents=True, exist_ok=True)
+        (crate / name).write_text(text)
+
+    def cargo(*words):
+        ended = subprocess.run(["cargo", *words], cwd=crate, env={**tests.environment, "RUSTC_BOOTSTRAP": "1"}, stdout=subprocess.PIPE, stderr=subprocess.STDOUT, text=True)
+        return ended.returncode, ended.stdout
+
+    if cargo("build", "--offline")[0]:
+        print("this cargo makes no program for aarch64-unknown-none-softfloat, so its runner is not tried")
+        return
+    tests.check("cargo run", cargo("run", "-q", "--offline"), (42, ""))
+    status, said = cargo("run", "-q", "--offline", "--", "one")
+    tests.check("cargo run, with a word", [status, "smemu exec: one: a guest has no arguments" in said], [125, True])
+
+
+def main():
+    smemu = pathlib.Path(sys.argv[1] if len(sys.argv) > 1 else emulator.find()).resolve()
+    with tempfile.TemporaryDirectory() as folder:
+        tests = Tests(str(smemu), folder)
+        for test in (try_helps, try_scripts, try_cmake, try_meson, try_lit, try_cargo):
+            test(tests)
+    print(f"{tests.number} checks, {tests.faults} failed")
+    return 1 if tests.faults else 0
+
+
+if __name__ == "__main__":
+    sys.exit(main())
