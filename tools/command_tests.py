@@ -87,6 +87,110 @@ def try_scripts(tests):
     tests.check("an option that stands twice", tests.run(tests.wrapper, "exec", "--vl", 128, "hello.elf", "--vl", 256), (125, "smemu exec: --vl 256: repeated\n"))
 
 
+# what was not looked at
+
+
+# makes so many calls with ZA on, of which the fifth from the end changes ZA
+MANY = """
+    .global _start
+_start:
+    smstart
+    mov x20, #12000
+loop:
+    mov x0, x20
+    bl square
+    sub x20, x20, #1
+    cbnz x20, loop
+    smstop
+    mov x0, #0
+    mov x8, #93
+    svc #0
+square:
+    cmp x0, #5
+    b.ne out
+    ptrue p0.b, all
+    dup z0.b, #1
+    smopa za0.s, p0/m, p0/m, z0.b, z0.b
+out:
+    ret
+"""
+
+
+def try_threads(tests):
+    """A call of any thread is looked at where none is named, and a change of any thread is found."""
+    source = (TOP / "examples/lost.s").read_text()
+    program = tests.assemble("two", re.sub("(?m)^square:", "square:\n    cbz x0, fine", source).replace("    ret\n", "fine:\n    ret\n", 1))
+    whole = tests.report(program, "two", "--threads", 2, "--svl", 128)
+    kinds = lambda said: re.findall("kept (\\d+), .* changed (\\d+)", said)
+    for thread, wanted, faults in (((), 1, [("1", "0"), ("0", "1")]), ((0,), 0, [("1", "0")]), ((1,), 1, [("0", "1")])):
+        status, said = tests.run(tests.wrapper, "za-calls", program, whole, *thread)
+        tests.check(f"za-calls of the threads {thread}", [status, kinds(said), re.findall(r"(?m)^thread \d+$", said)],
+                    [wanted, faults, [] if thread else ["thread 0", "thread 1"]])
+        status, said = tests.run(tests.wrapper, "when", program, whole, *thread, "za", "--after", 5)
+        changed = [("0", "8"), ("1", "7")] if not thread else [(str(thread[0]), "87"[thread[0]])]
+        tests.check(f"when of the threads {thread}", [status, re.findall(r"(?m)^at (\d+) ", said), re.findall(r"(?m)^thread (\d+)$", said)],
+                    [0, [count for _, count in changed], [] if thread else ["0", "1"]])
+    status, said = tests.run(tests.wrapper, "when", program, whole, "x", 9, "--last")
+    tests.check("when of no change", [status, said], [1, "thread 0\nx 9: no change\nthread 1\nx 9: no change\n"])
+    for thread in (2, 40):
+        tests.check(f"thread {thread}", [tests.run(tests.wrapper, *words)[0] for words in (("za-calls", program, whole, thread), ("when", program, whole, thread, "za"))],
+                    [tests.run(tests.smemu, "replay", program, whole, thread)[0]] * 2)
+
+
+def try_bounds(tests):
+    """Where a bound was met the last line says what was not looked at, and the status is 3, if nothing was found that is wrong."""
+    program = tests.assemble("many", MANY)
+    whole = tests.report(program, "many", "--svl", 128)
+    # each turn of the loop but the last five has seven instructions, and its call is the second; two stand before them
+    wanted = f"not looked at: the calls of thread 0 from count {2 + 7 * 10000 + 1} on (--most 10000)"
+    status, said = tests.run(tests.wrapper, "za-calls", program, whole)
+    tests.check("12,000 calls", [status, said.splitlines()[-1]], [3, wanted])
+    status, said = tests.run(tests.wrapper, "za-calls", program, whole, "--most", 12000)
+    tests.check("all of them", [status, said.splitlines()[-2].split(": ")[0], "not looked at" in said, "kept 11999, changed 1" in said],
+                [1, "calls 12000, with ZA on 12000", False, True])
+    stripped, image = tests.path("stripped.elf"), bytearray(program.read_bytes())
+    image[40:48], image[60:62] = bytes(8), bytes(2)
+    stripped.write_bytes(image)
+    status, said = tests.run(tests.wrapper, "za-calls", stripped, tests.report(stripped, "stripped", "--svl", 128))
+    tests.check("no section table", [status, said.splitlines()[-1]], [3, "not looked at: all calls, since the program has no section table"])
+    program, whole = tests.path("two.elf"), tests.path("two.report")
+    for words, last in ((("--most", 1), "not looked at: counts of thread 1 from 5 on (--most 1)"), (("--last", "--most", 1), "not looked at: counts of thread 1 below 14 (--most 1)")):
+        status, said = tests.run(tests.wrapper, "when", program, whole, 1, "za", *words)
+        tests.check(f"when {words}", [status, said.splitlines()[-1]], [3, last])
+    for words in (("--last",), ("--most", 99), ()):
+        status, said = tests.run(tests.wrapper, "when", program, whole, 1, "za", *words)
+        tests.check(f"when {words}", [status, "not looked at" in said], [0, False])
+    status, said = tests.run(tests.wrapper, "when", program, whole, 1, "mem", "0x10", 8)
+    tests.check("when, no memory", [status, said], [1, "mem 0x10 8: no memory there: fault 0000000000000010\n"])
+
+
+def try_names(tests):
+    """A function that is to share its caller's ZA is one that the program has."""
+    program, whole = tests.path("two.elf"), tests.path("two.report")
+    for name in ("square", "square,other", ""):
+        status, said = tests.run(tests.wrapper, "za-calls", program, whole, "--shares", name)
+        tests.check(f"--shares {name!r}", [status, said.splitlines()[-1]], [2, f"smemu za-calls: error: --shares {name}: the program has no function of that name"])
+    if not tests.needs("clang-19", "ld.lld-19"):
+        return
+    tests.run("examples/c/build.sh", "clang-19", "ld.lld-19", "c.elf")
+    whole = tests.report(tests.path("c.elf"), "c")
+    found = [tests.run(tests.wrapper, "za-calls", "c.elf", whole, *(it for name in names for it in ("--shares", name)))[0] for names in ((), ("multiply",), ("multiply", "no"))]
+    tests.check("--shares of a program with names", found, [1, 0, 2])
+
+
+def try_marks(tests):
+    """Where no call is marked abi-check's own line is as it was, and what it is worth stands beside it."""
+    for name, number, sentence in (("lost", 0, "smemu: no call of this run is marked, so none was judged\n"), ("lazy", 1, "")):
+        program = tests.assemble(name, (TOP / f"examples/{name}.s").read_text())
+        whole = tests.report(program, name)
+        line = f"abi yes calls {number} open 0\n"
+        for words, wanted in ((tests.smemu, ""), (tests.wrapper, sentence)):
+            ended = subprocess.run([words, "abi-check", program, whole, "0"], env=tests.environment, stdout=subprocess.PIPE, stderr=subprocess.PIPE, text=True)
+            tests.check(f"abi-check of {name}", [ended.returncode, ended.stdout, ended.stderr], [0, line, wanted])
+        last = tests.run(tests.wrapper, "za-calls", program, whole)[1].splitlines()[-1]
+        tests.check(f"za-calls of {name}", last, "abi-check: " + (line.rstrip() if number else "no call of this run is marked"))
+
+
 # build systems
 
 
@@ -186,7 +290,7 @@ def main():
     smemu = pathlib.Path(sys.argv[1] if len(sys.argv) > 1 else emulator.find()).resolve()
     with tempfile.TemporaryDirectory() as folder:
         tests = Tests(str(smemu), folder)
-        for test in (try_helps, try_scripts, try_cmake, try_meson, try_lit, try_cargo):
+        for test in (try_helps, try_scripts, try_threads, try_bounds, try_names, try_marks, try_cmake, try_meson, try_lit, try_cargo):
             test(tests)
     print(f"{tests.number} checks, {tests.faults} failed")
     return 1 if tests.faults else 0

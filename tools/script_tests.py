@@ -407,7 +407,27 @@ def wrapping(folder):
         yield f"status {status}, quietly", ran(folder / "smemu", status, env={**os.environ, "SMEMU_QUIET": "1"}), (status, "the line\n", "")
     yield "--which", ran(folder / "smemu", "--which"), (0, f"{folder}/crates/smemu_cli/out/smemu_cli\n", "")
     yield from marking(folder)
+    yield from judging(folder)
     yield from helping(folder)
+
+
+def judging(folder):
+    """What abi-check says is written as it is; where no call was marked a sentence stands beside it, on standard error."""
+    smemu, sentence = folder / "smemu", "smemu: no call of this run is marked, so none was judged\n"
+    for line, status, wanted in (("abi yes calls 0 open 0", 0, sentence), ("abi yes calls 0 open 1", 0, ""), ("abi yes calls 10 open 0", 0, ""), ("abi yes calls 0 open 0 ", 0, ""),
+                                 ("unlawful: count 1 pc 2 toodeep", 13, "smemu: ended with status 13; the line that says why stands in the output\n"),
+                                 ("", 8, "smemu: ended with status 8\n")):
+        program(folder / "crates/smemu_cli/out/smemu_cli", f"#!/bin/sh\n{'echo' if line else ':'} '{line}'\nexit {status}\n")
+        text = line and f"{line}\n"
+        yield f"abi-check, {line!r}", ran(smemu, "abi-check", "p", "r", 0), (status, text, wanted)
+        yield f"abi-check, {line!r}, quietly", ran(smemu, "abi-check", "p", "r", 0, env={**os.environ, "SMEMU_QUIET": "1"}), (status, text, "")
+        if not status:
+            yield f"another command, {line!r}", ran(smemu, "replay", "p", "r", 0), (status, text, "")
+    command = f"echo given | {smemu} abi-check /dev/stdin; {smemu} abi-check p > /dev/full; echo $?; {smemu} abi-check p | true; echo ${{PIPESTATUS[0]}}"
+    program(folder / "crates/smemu_cli/out/smemu_cli", '#!/bin/sh\n[ "$2" = p ] && head -c 100000 /dev/zero | tr "\\0" x || cat\n')
+    yield "abi-check, what it reads and where it writes", ran("bash", "-c", command)[:2], (0, "given\n5\n5\n")
+    program(folder / "crates/smemu_cli/out/smemu_cli", "#!/bin/sh\nkill -s TERM $$\n")
+    yield "abi-check, a signal", ran(smemu, "abi-check"), (-signal.SIGTERM, "", "")
 
 
 # a help in the form of the program's, and of each command what is to be shown of it
