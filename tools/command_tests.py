@@ -1,19 +1,23 @@
 #!/usr/bin/env python3
 """Tries the command as its users have it: the wrapper over the emulator with all its words, and build systems that start programs by `smemu exec`.
 
-    tools/command_tests.py [PROGRAM]
+    tools/command_tests.py [PROGRAM] [--only NAME]
 
 PROGRAM is the emulator; where it is not given it is what ./smemu runs. The options that the help of a command shows are compared with those that the
 emulator takes. The projects of examples/ci are built and run by CMake with CTest, Meson, lit and Cargo, as far as each is there, right ones and ones
 with a fault; what is not there is said. The last line says how many checks there were; the status is 1 where one failed.
 """
+import argparse
+import itertools
 import os
 import pathlib
 import re
 import shutil
+import struct
 import subprocess
 import sys
 import tempfile
+import time
 
 sys.dont_write_bytecode = True
 import beside_tests
@@ -191,6 +195,57 @@ def try_marks(tests):
         tests.check(f"za-calls of {name}", last, "abi-check: " + (line.rstrip() if number else "no call of this run is marked"))
 
 
+# words that are not listed
+
+
+def words_of(name):
+    """The words of a file of smemu_rows, which other tools gave."""
+    return [int(line.split("\t")[0], 16) for line in (TOP / "crates/smemu_rows/data" / name).read_text().splitlines()]
+
+
+def try_refused(tests):
+    """Exactly the words that mean no instruction are listed, whatever else a file is refused for, and within some seconds."""
+    none, known = words_of("no_row.tsv"), [*words_of("words.tsv"), *words_of("vector_words.tsv")]
+    words = [word for pair in itertools.zip_longest(none, known) for word in pair if word is not None]
+    program = tests.assemble("words", "    .global _start\n_start:\n" + "    nop\n" * len(words))
+    image, file = bytearray(program.read_bytes()), tests.path("none.elf")
+    start = image.index(struct.pack("<I", 0xD503201F) * len(words))
+    image[start:start + 4 * len(words)] = struct.pack(f"<{len(words)}I", *words)
+    file.write_bytes(image)
+    wanted = [f"{0x400000 + 4 * at:#018x} {word:#010x}" for at, word in enumerate(words) if word in set(none)]
+    before = time.monotonic()
+    status, said = tests.run(tests.wrapper, "refused", file)
+    others = lambda said: sorted(set(re.findall(r"(?m)^0x\w{16} 0x\w{8}", said)) ^ set(wanted))
+    tests.check("words without a row", [status, others(said), said.splitlines()[-1]], [0, [], f"not listed: {len(none)}"])
+    print(f"{len(none)} words that are not listed: {time.monotonic() - before:.1f} s")
+    image[16] = 3
+    file.write_bytes(image)
+    status, said = tests.run(tests.wrapper, "refused", file)
+    tests.check("of a file for any address", [status, others(said), said.splitlines()[-2:]], [1, [], [f"not listed: {len(none)}", "bad file: notstatic 3"]])
+    image[40:48], image[16], image[60:62] = bytes(8), 2, bytes(2)
+    file.write_bytes(image)
+    tests.check("without a section table", tests.run(tests.wrapper, "refused", file), (3, "not looked at: any word, since the file has no section table\n"))
+    for name, data, line in (("text", b"no program\n", "truncated 11"), ("cut", bytes(image[:63]), "truncated 63")):
+        file.write_bytes(data)
+        tests.check(f"refused, {name}", tests.run(tests.wrapper, "refused", file), (1, f"not listed: 0\nbad file: {line}\n"))
+
+
+def try_reduction(tests):
+    """A word that a compiler made is shown with its function, its line, and what FROM_C.md says to write."""
+    if not tests.needs("clang-19", "ld.lld-19", "llvm-objdump-19", "llvm-symbolizer-19"):
+        return
+    tests.path("sum.c").write_text("#include <arm_sve.h>\nstatic int x;\nint *other(void) { return &x; }\nunsigned long sum(svuint8_t v)\n{\n    return svaddv(svptrue_b8(), v);\n}\n")
+    options = "--target=aarch64-linux-gnu -g -O2 -march=armv8.1-a+sve2 -mno-implicit-float -ffreestanding".split()
+    tests.run("clang-19", *options, "-c", "sum.c")
+    tests.run("ld.lld-19", "-static", "-z", "max-page-size=4096", "-e", "sum", "-o", "sum.elf", "sum.o")
+    cell = re.search(r"(?m)^\| `fmov x0, d0` \|.*\| (.*) \|$", (TOP / "docs/FROM_C.md").read_text())[1]
+    advice = "fmov 1: " + re.sub(r"\[(.*?)\]\(.*?\)", r"\1", cell)
+    for name, where, status, last in (("sum.elf", "sum sum.c:6", 0, []), ("sum.o", ".text sum", 1, ["bad file: notstatic 1"])):
+        found, said = tests.run(tests.wrapper, "refused", name)
+        lines = said.splitlines()
+        tests.check(f"refused {name}", [found, lines[0].split(" ", 1)[1], lines[1:]], [status, f"0x9e660000 {where}: fmov x0, d0", [advice, "not listed: 1", *last]])
+
+
 # build systems
 
 
@@ -287,11 +342,16 @@ def try_cargo(tests):
 
 
 def main():
-    smemu = pathlib.Path(sys.argv[1] if len(sys.argv) > 1 else emulator.find()).resolve()
+    words = argparse.ArgumentParser(description=__doc__.splitlines()[0])
+    words.add_argument("program", nargs="?", metavar="PROGRAM")
+    words.add_argument("--only", default="", metavar="NAME", help="the parts with NAME in their names: helps, bounds, cmake ..")
+    asked = words.parse_args()
+    smemu, only = pathlib.Path(asked.program or emulator.find()).resolve(), asked.only
     with tempfile.TemporaryDirectory() as folder:
         tests = Tests(str(smemu), folder)
-        for test in (try_helps, try_scripts, try_threads, try_bounds, try_names, try_marks, try_cmake, try_meson, try_lit, try_cargo):
-            test(tests)
+        for test in (try_helps, try_scripts, try_threads, try_bounds, try_names, try_marks, try_refused, try_reduction, try_cmake, try_meson, try_lit, try_cargo):
+            if only in test.__name__:
+                test(tests)
     print(f"{tests.number} checks, {tests.faults} failed")
     return 1 if tests.faults else 0
 

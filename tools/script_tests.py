@@ -21,6 +21,7 @@ import tempfile
 
 sys.dont_write_bytecode = True
 import doc_tests
+import refused as refused_script
 import reports
 import show as show_script
 import vectors as vectors_script
@@ -579,9 +580,32 @@ def vectoring(folder):
     yield from rereading()
 
 
+# what objdump says of a word, and with what the row of FROM_C.md begins that says what to write
+WRITTEN = (("fmov x0, d0", "`fmov x0, d0`"), ("stp d15, d14, [sp, #-64]!", "`stp d15, d14, ..`"), ("ldp d9, d8, [sp]", "`stp d15, d14, ..`"), ("stp d0, d1, [x0]", "all of"),
+           ("mad z0.s, p0/m, z1.s, z2.s", "`mad`"), ("adr z0.s, [z1.s, z0.s, lsl #1]", "`adr z0.s"), ("lastb s0, p0, z0.s", "`lastb s0"),
+           ("and z0.s, z0.s, #0xff", "`and z0.s"), ("uqadd z0.h, z0.h, #3", "`and z0.s"), ("dupm z0.s, #0xff00", "`and z0.s"), ("ld1rw { z0.s }, p0/z, [x0]", "`ld1rw`"),
+           ("udot z0.s, z1.b, z2.b", "`sdot`"), ("revw z0.d, p0/m, z1.d", "`revb`"), ("ld2b { z0.b, z1.b }, p0/z, [x0]", "`ld2b` to `ld4d`"), ("st4d {z0.d, z1.d, z2.d, z3.d}, p0, [x0]", "`ld2b`"),
+           ("ld1w { z0.s }, p0/z, [x0, z1.s, uxtw #2]", "gathers"), ("st1d { z0.d }, p0, [z1.d, #8]", "gathers"), ("ldff1b { z0.b }, p0/z, [x0, xzr]", "`ldff1b`"),
+           ("brkb p0.b, p1/z, p2.b", "`ldff1b`"), ("prfm pldl1keep, [x0]", "`prfm`"), ("prfb pldl1keep, p0, [x0]", "`prfm`"), ("ldaxr w0, [x1]", "`ldaxr`"), ("stlxrb w0, w1, [x2]", "`ldaxr`"),
+           ("ldaprb w0, [x1]", "`ldaxr`"), ("stlur x0, [x1, #8]", "`ldaxr`"), ("ldaxp x0, x1, [x2]", "`ldaxr`"), ("crc32b w0, w1, w2", "`crc32b`"), ("cnt x0, x1", "`crc32b`"), ("umin x0, x1, x2", "`crc32b`"),
+           ("fadd z0.s, z0.s, z1.s", "all of"), ("add v0.4s, v1.4s, v2.4s", "all of"), ("ld1 { v0.16b }, [x0]", "all of"), ("str q0, [x0]", "all of"), ("stur d0, [x0, #-8]", "all of"),
+           ("scvtf d0, x1", "all of"), ("dup v0.16b, w1", "all of"), ("ldg x0, [x1]", None), ("dc cvac, x0", None), ("match p0.b, p0/z, z0.b, z1.b", None))
+
+
+def writing():
+    """Each text has the row of FROM_C.md that is meant for it, and each row that is named is there."""
+    cells = list(refused_script.advice())
+    for text, wanted in WRITTEN:
+        row = refused_script.row_of(text)
+        yield f"the row of {text}", row and row.startswith(wanted) if wanted else row, True if wanted else None
+    for _, row in refused_script.ROWS:
+        yield f"the row {row}", len([cell for cell in cells if cell.startswith(row)]), 1
+    yield "all rows", [cell for cell in cells if not any(cell.startswith(row) for _, row in refused_script.ROWS)], []
+
+
 def collected(part, folder):
     """The checks of a part, with its name; those that need a folder have one of their own."""
-    if part in (reading, showing):
+    if part in (reading, showing, writing):
         return [(f"{part.__name__}: {what}", got, wanted) for what, got, wanted in part()]
     own = folder / part.__name__
     own.mkdir()
@@ -589,7 +613,7 @@ def collected(part, folder):
 
 
 def main():
-    parts = (reading, showing, comparing, refusing, paging, executing, wrapping, releasing, vectoring)
+    parts = (reading, showing, comparing, refusing, paging, executing, wrapping, releasing, vectoring, writing)
     with tempfile.TemporaryDirectory() as name, concurrent.futures.ThreadPoolExecutor() as pool:
         checks = [check for found in pool.map(lambda part: collected(part, pathlib.Path(name)), parts) for check in found]
     failed = [(what, got, wanted) for what, got, wanted in checks if not got == wanted]
