@@ -8,9 +8,11 @@ emulator takes. The projects of examples/ci are built and run by CMake with CTes
 with a fault; what is not there is said. The last line says how many checks there were; the status is 1 where one failed.
 """
 import argparse
+import collections
 import itertools
 import os
 import pathlib
+import random
 import re
 import shutil
 import struct
@@ -20,9 +22,11 @@ import tempfile
 import time
 
 sys.dont_write_bytecode = True
+import at_fault
 import beside_tests
 import doc_tests
 import emulator
+import vectors
 import verbs
 
 TOP = pathlib.Path(__file__).resolve().parent.parent
@@ -195,6 +199,106 @@ def try_marks(tests):
         tests.check(f"za-calls of {name}", last, "abi-check: " + (line.rstrip() if number else "no call of this run is marked"))
 
 
+# what is at fault
+
+
+def mutations(line, rng):
+    """Lines that differ from a line by a byte that is another, is not there, or is there besides, or by a field."""
+    alphabet = "0123456789abcdefxzpmsnqvr =AF-\t\r"
+    for _ in range(4):
+        at = rng.randrange(len(line) + 1)
+        yield line[:at] + rng.choice(alphabet) + line[at + 1:]
+        yield line[:at] + line[at + 1:]
+        yield line[:at] + rng.choice(alphabet) + line[at:]
+    fields = line.split(" ")
+    at = rng.randrange(len(fields))
+    yield " ".join(fields[:at] + fields[at:at + 1] * 2 + fields[at + 1:])
+    yield " ".join(fields[:at] + fields[at + 1:])
+    yield " ".join(fields[:1] + rng.sample(fields[1:], len(fields) - 1))
+
+
+def try_vector_faults(tests):
+    """`vectors.py check` refuses exactly the lines that the emulator refuses, and names the field."""
+    rng, files = random.Random(1), sorted((TOP / "crates/smemu_rows/data").glob("*.vectors"))
+    tried, wrong = collections.Counter(), []
+    for path in rng.sample(files, 24):
+        vl, svl = map(int, path.stem.rsplit("-", 2)[1:])
+        line = min(rng.sample(path.read_text().splitlines(), 1) + ["ab010020 x1=8000000000000000 nzcv=0101"] * (path.stat().st_size > 1 << 20), key=len)
+        for changed in mutations(line, rng):
+            file = tests.path("changed.vectors")
+            file.write_bytes(f"1e604000\n{changed}\n1e604000\n".encode())
+            said = subprocess.run([tests.smemu, "vectors", file, "--vl", str(vl), "--svl", str(svl)], stdout=subprocess.PIPE, text=True)
+            found = vectors.check(file, vl, svl)
+            tried[said.returncode] += 1
+            if (found and f"bad vectors: line {found[0]}\n") != (said.stdout if said.returncode else None):
+                wrong.append((path.name, changed, found))
+    tests.check("lines of vectors", [wrong, sorted(tried), min(tried.values()) > 20], [[], [0, 14], True])
+    for line, column, why in (("ab010020 x1=80", 13, "a number has 16 hexadecimal digits"), ("ab010020 q=1", 10, "a field is KEY=VALUE"), ("AB010020", 1, "a line begins with a word"),
+                              ("ab010020 sp=0000000000000001 x1=0000000000000001", 30, "x1 is to stand before sp"), ("ab010020 za0=00", 14, "ZA is there where svcr has bit 1"),
+                              ("ab010020 z1=00", 13, "z1 has 16 bytes here, 32 digits, and this is 1"), ("ab010020 svcr=1 z1=00", 20, "z1 has 32 bytes here"),
+                              ("ab010020 ", 10, "between two fields"), ("ab010020\r", 9, "a line ends with a line feed alone"), ("ab010020 # a comment", 10, "a field is KEY=VALUE")):
+        tests.path("one.vectors").write_bytes(line.encode())
+        status, said = tests.run(TOP / "tools/vectors.py", "check", "one.vectors")
+        wanted = f"line 1, column {column}: {why}"
+        tests.check(f"check {line!r}", [status, said[:len(wanted)], said.splitlines()[-1]], [1, wanted, " " * (column - 1) + "^"])
+
+
+def try_plan_faults(tests):
+    """Of lines of plans and of scripts the kind of fault is the emulator's, so the word that is marked is the one."""
+    rng, wrong, kinds = random.Random(2), [], collections.Counter()
+    program, whole = tests.path("two.elf"), tests.path("two.report")
+    plans, scripts = ["fetch 0", "run 12 4294967295", "offer 1", "next 0"], ["slice s 1 h 0", "mem 0x400000 16", "break 0x40", "step 3", "back 0", "goto 10", "where", "regs", "za"]
+    for shapes, lines, command in ((at_fault.PLAN, plans, ("sim", program)), (at_fault.SCRIPT, scripts, ("debug", program, whole, "0"))):
+        for line in lines:
+            for changed in (*mutations(line, rng), *(f"{line.rsplit(' ', 1)[0]} {it}" for it in ("4294967296", "4096", "4097", "0x", "00", "", "-1", "v", "0 0"))):
+                if "\r" in changed:
+                    continue
+                file = tests.path("changed.plan")
+                file.write_text(changed)
+                said = tests.run(tests.smemu, *command, file)[1].splitlines()
+                found = at_fault.shape_fault(changed, shapes)
+                kind = next((it.rpartition(": ")[2] for it in said[:1] if it.startswith("bad plan")), None)
+                kinds[kind] += 1
+                if kind != (found and found[1]):
+                    wrong.append((changed, kind, found))
+    tests.check("lines of plans and scripts", [wrong, set(kinds)], [[], {None, "unknown", "badnumber", "missing", "extra"}])
+
+
+# words at a terminal, and what stands below the refusal
+SHOWN = (
+    ("run two.elf --svl 100", ["usage: word 3: outofrange", "smemu run two.elf --svl 100", "                        ^", "--svl is 128, 256, 512, 1024 or 2048"]),
+    ("run two.elf --svl", ["usage: word 3: missing", "smemu run two.elf --svl", "                        ^", "--svl is one of 128, 256, 512, 1024 or 2048"]),
+    ("sim two.elf", ["usage: word 2: missing", "smemu sim two.elf", "                  ^", "PLAN is to stand here"]),
+    ("run two.elf --vl 128 --vl 256", ["usage: word 4: repeated", "smemu run two.elf --vl 128 --vl 256", "                           ^", "--vl stands before, as word 2"]),
+    ("replay two.elf two.report 32", ["usage: word 3: outofrange", "smemu replay two.elf two.report 32", "                                ^", "THREAD is 0 to 31"]),
+    ("run two.elf --slice x", ["usage: word 3: badnumber", "smemu run two.elf --slice x", "                          ^",
+                               "--slice is 1 to 1000000, in decimal digits without a sign and a leading zero"]),
+    ("bench 1 --vl 128", ["usage: word 2: unknown", "smemu bench 1 --vl 128", "              ^", "an option is one of --cores"]),
+    ("dis two.elf more", ["usage: word 2: extra", "smemu dis two.elf more", "                  ^", "nothing is to stand after `dis PROGRAM`"]),
+    ("sim two.elf bad.plan", ["bad plan: line 2: missing", "run 0", "     ^", "the line ends where a number from 1 to 4294967295 is to stand"]),
+    ("debug two.elf two.report 0 bad.script", ["bad plan: line 2: unknown", "slice s 0 k 0", "          ^", "one of h, v is to stand here"]),
+    ("vectors bad.vectors", ["bad vectors: line 2", "1e604000 x1=80", "            ^", "a number has 16 hexadecimal digits"]),
+    ("replay two.elf other.report 0", ["bad report: line 3: image", "image " + "0" * 64, "^", "the report is of another program"]),
+    ("replay two.elf two.report 5", ["bad report: line 2: nothread", "options vl=128 svl=128 slice=1000 budget=10000000 threads=2", "^", "the report has no such thread"]),
+)
+
+
+def try_terminal(tests):
+    """On a terminal the words and the lines at fault have a mark, and what may stand there; what is no terminal has nothing of it."""
+    if not doc_tests.has_terminal():
+        print("there is no pseudo-terminal here, so what stands on one is not tried")
+        return
+    for name, text in (("bad.plan", "fetch 0\nrun 0\n"), ("bad.script", "goto 5\nslice s 0 k 0\n"), ("bad.vectors", "ab010020\n1e604000 x1=80\n"),
+                       ("other.report", re.sub("(?m)^image .*", "image " + "0" * 64, tests.path("two.report").read_text()))):
+        tests.path(name).write_text(text)
+    for words, wanted in SHOWN:
+        found = doc_tests.shown(f"./smemu {words}", tests.folder)
+        tests.check(words, found, [*wanted, *["smemu: ./smemu --help has the commands and their options"] * wanted[0].startswith("usage")])
+        tests.check(f"{words}, quietly", doc_tests.shown(f"SMEMU_QUIET=1 ./smemu {words}", tests.folder), wanted[:1])
+        ended = subprocess.run(["./smemu", *words.split()], cwd=tests.folder, env=tests.environment, stdout=subprocess.PIPE, stderr=subprocess.PIPE, text=True)
+        tests.check(f"{words}, no terminal", [ended.stdout, "^" in ended.stderr], [f"{wanted[0]}\n", False])
+
+
 # words that are not listed
 
 
@@ -349,8 +453,9 @@ def main():
     smemu, only = pathlib.Path(asked.program or emulator.find()).resolve(), asked.only
     with tempfile.TemporaryDirectory() as folder:
         tests = Tests(str(smemu), folder)
-        for test in (try_helps, try_scripts, try_threads, try_bounds, try_names, try_marks, try_refused, try_reduction, try_cmake, try_meson, try_lit, try_cargo):
-            if only in test.__name__:
+        for test in (try_helps, try_scripts, try_threads, try_bounds, try_names, try_marks, try_vector_faults, try_plan_faults, try_terminal, try_refused, try_reduction, try_cmake, try_meson, try_lit, try_cargo):
+            # that of threads makes the program which others take
+            if only in test.__name__ or test is try_threads:
                 test(tests)
     print(f"{tests.number} checks, {tests.faults} failed")
     return 1 if tests.faults else 0
