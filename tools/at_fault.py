@@ -4,12 +4,14 @@
     tools/at_fault.py EMULATOR WORDS
 
 `./smemu` starts it where a command was refused and its standard error is a terminal. It asks the emulator with the words once more, and writes nothing
-where the answer is none of `usage`, `bad report`, `bad plan` and `bad vectors`, or where a file is none that can be read again.
+where the answer is none of `usage`, `bad report`, `bad plan`, `bad vectors` and `bad source`, or where a file is none that can be read again. Of a source
+it shows the lines at fault that come after the first, at most 20 in all: it asks again with each that was found taken out.
 """
 import pathlib
 import re
 import subprocess
 import sys
+import tempfile
 
 sys.dont_write_bytecode = True
 import reports
@@ -23,8 +25,8 @@ SCRIPT = {"step": [MOST], "back": [MOST], "goto": [MOST], "break": [ADDRESS], "w
           "slice": [("b", "h", "s", "d", "q"), MOST, ("h", "v"), MOST]}
 # the values of words that are no options
 PLACES = {"THREAD": "0 to 31", "COUNT": "0 to 4294967295", "N": "1 to 20000"}
-# files that are read again
-MOST_BYTES = 64 << 20
+# files that are read again, and lines of a source that are shown
+MOST_BYTES, MOST_LINES = 64 << 20, 20
 
 
 def marked(text, column):
@@ -140,8 +142,42 @@ def file_text(words, said):
     return f"{marked(line, column)}\n{why}"
 
 
+# sources
+
+
+def more_lines(smemu, name):
+    """Of a source that is refused the other lines that are at fault: each is found with those before it taken out, but for their labels."""
+    path = pathlib.Path(name)
+    if not path.is_file() or path.stat().st_size > MOST_BYTES:
+        return
+    lines = path.read_bytes().split(b"\n")
+    with tempfile.NamedTemporaryFile(suffix=".s") as copy:
+        for tried in range(MOST_LINES + 1):
+            pathlib.Path(copy.name).write_bytes(b"\n".join(lines))
+            said = subprocess.run([smemu, "asm", copy.name], stdin=subprocess.DEVNULL, stdout=subprocess.PIPE).stdout.split(b"\n")[0].decode(errors="replace")
+            found = re.match(r"bad source: line ([1-9]\d*): ([a-z]+)(?: ([a-z]+) (\d+))?", said)
+            # a label that stands twice is no fault of one line alone
+            if not found or found[2] in ("doubled", "toolarge"):
+                return
+            if tried == MOST_LINES:
+                yield "and more"
+                return
+            number = int(found[1])
+            line = lines[number - 1].decode(errors="replace")
+            if tried == 1:
+                yield "with the lines at fault taken out one after the other:"
+            if tried:
+                yield said[len("bad source: "):]
+                yield marked(line, int(found[4]) - 1) if found[3] else line
+            label = re.match(rb"\s*[A-Za-z_.$][\w.$]*:", lines[number - 1])
+            lines[number - 1] = label[0] if label else b""
+
+
 def main():
     smemu, words = sys.argv[1], sys.argv[2:]
+    if words[:1] == ["asm"] and len(words) == 2:
+        print("".join(f"{line}\n" for line in more_lines(smemu, words[1])), end="")
+        return
     asked = lambda *it: subprocess.run([smemu, *it], stdin=subprocess.DEVNULL, stdout=subprocess.PIPE).stdout.decode(errors="replace")
     said = asked(*words)
     usage = re.match(r"usage: word (\d+): (\w+)", said)

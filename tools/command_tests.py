@@ -299,6 +299,89 @@ def try_terminal(tests):
         tests.check(f"{words}, no terminal", [ended.stdout, "^" in ended.stderr], [f"{wanted[0]}\n", False])
 
 
+# sources
+
+
+SIX = """    .global _start
+_start: foo x0
+    add x0, x0, #4096
+    mov x0, #0
+    b nowhere
+    cfi
+    sub sp, sp, x0
+    mov x8, #93
+    svc #0
+"""
+# what stands on a terminal below the first line
+FIVE = """_start: foo x0
+        ^
+with the lines at fault taken out one after the other:
+line 3: line badnumber 17
+    add x0, x0, #4096
+                ^
+line 6: line unknownname 5
+    cfi
+    ^
+line 7: line badoperand 19
+    sub sp, sp, x0
+                  ^
+line 5: undefined
+    b nowhere
+"""
+
+
+def try_sources(tests):
+    """On a terminal each line of a source that is at fault is shown, up to 20."""
+    if not doc_tests.has_terminal():
+        return
+    tests.path("six.s").write_text(SIX)
+    tests.check("a source with five faults", doc_tests.shown("./smemu asm six.s", tests.folder), ["bad source: line 2: line unknownname 9", *FIVE.splitlines()])
+    for count, more in ((20, []), (21, ["and more"])):
+        tests.path("many.s").write_text("    foo\n" * count)
+        found = doc_tests.shown("./smemu asm many.s", tests.folder)
+        wanted = [f"line {number}: line unknownname 5" for number in range(2, 21)]
+        tests.check(f"{count} faults", [[it for it in found if it.startswith("line ")], found[-1:] if more else []], [wanted, more])
+    for text in ("_start:\n    foo\n", "_start:\n    nop\n_start:\n"):
+        tests.path("one.s").write_text(text)
+        tests.check(f"the source {text!r}", "taken out" in "\n".join(doc_tests.shown("./smemu asm one.s", tests.folder)), False)
+
+
+def try_elsewhere(tests):
+    """What ASSEMBLY.md says to write in the place of what LLVM takes is the same word by both."""
+    if not tests.needs("clang-19", "llvm-objdump-19"):
+        return
+    table = (TOP / "docs/ASSEMBLY.md").read_text().partition("## Elsewhere, and here")[2].partition("\n## ")[0]
+    spans = [[re.findall("`([^`]*)`", cell) for cell in row.split(" | ")] for row in table.splitlines() if row.startswith("| `")]
+    tried, wrong = [], []
+    for there, here in (pair for cells in spans if len(cells) == 2 for pair in zip(*cells)):
+        tests.path("there.s").write_text(f"{there}\n")
+        made = tests.run("clang-19", "--target=aarch64-linux-gnu", "-march=armv9-a+sme", "-c", "there.s", "-o", "there.o")
+        # a mnemonic without its operands, a directive, or what has a name is no line
+        if made[0] or " " not in here or there.startswith(".") or "name" in there:
+            continue
+        words = re.findall(r"(?m)^ *[0-9a-f]+: ([0-9a-f]{8})", tests.run("llvm-objdump-19", "-d", "there.o")[1])
+        tests.path("here.s").write_text(f"_start:\n    {here}\n")
+        ended = subprocess.run([tests.smemu, "asm", tests.path("here.s")], stdout=subprocess.PIPE)
+        tests.path("here.elf").write_bytes(ended.stdout)
+        found = re.findall(r"(?m)^\w{16} (\w{8}) ", tests.run(tests.smemu, "dis", "here.elf")[1])
+        tried.append(there)
+        if found != words:
+            wrong.append((there, words, here, found))
+    new = {"sub sp, sp, x0", "bic x0, x0, #15", "ubfiz x0, x1, #3, #5", "sbfiz x0, x1, #3, #5", "mov z0.s, p1/z, #3", "subr z0.s, z0.s, #32000", "tbl z0.s, {z1.s}, z2.s"}
+    tests.check("elsewhere and here", [wrong, new - set(tried), len(tried) > 25], [[], set(), True])
+
+
+def try_slurm(tests):
+    """A job without a program, and one whose program is refused, fail and leave nothing."""
+    tests.path("programs.txt").write_text("two.elf\n\nsix.s\n")
+    tests.path("six.s").write_text(SIX)
+    before = set(os.listdir(tests.folder))
+    for job, status, said in ((2, 2, "slurm.sh: line 2 of programs.txt has no program\n"), (3, 1, "slurm.sh: six.s: bad file: notelf\n"), (4, 2, "slurm.sh: line 4 of programs.txt has no program\n")):
+        ended = subprocess.run(["examples/ci/slurm.sh"], cwd=tests.folder, env={**tests.environment, "SMEMU": tests.smemu, "SLURM_ARRAY_TASK_ID": str(job)},
+                               stdout=subprocess.PIPE, stderr=subprocess.STDOUT, text=True)
+        tests.check(f"job {job}", [ended.returncode, ended.stdout, set(os.listdir(tests.folder)) - before], [status, said, set()])
+
+
 # words that are not listed
 
 
@@ -453,7 +536,7 @@ def main():
     smemu, only = pathlib.Path(asked.program or emulator.find()).resolve(), asked.only
     with tempfile.TemporaryDirectory() as folder:
         tests = Tests(str(smemu), folder)
-        for test in (try_helps, try_scripts, try_threads, try_bounds, try_names, try_marks, try_vector_faults, try_plan_faults, try_terminal, try_refused, try_reduction, try_cmake, try_meson, try_lit, try_cargo):
+        for test in (try_helps, try_scripts, try_threads, try_bounds, try_names, try_marks, try_vector_faults, try_plan_faults, try_terminal, try_sources, try_elsewhere, try_slurm, try_refused, try_reduction, try_cmake, try_meson, try_lit, try_cargo):
             # that of threads makes the program which others take
             if only in test.__name__ or test is try_threads:
                 test(tests)
