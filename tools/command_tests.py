@@ -26,6 +26,7 @@ import at_fault
 import beside_tests
 import doc_tests
 import emulator
+import self_test
 import vectors
 import verbs
 
@@ -433,6 +434,66 @@ def try_reduction(tests):
         tests.check(f"refused {name}", [found, lines[0].split(" ", 1)[1], lines[1:]], [status, f"0x9e660000 {where}: fmov x0, d0", [advice, "not listed: 1", *last]])
 
 
+# the test of the program
+
+
+def some_rows(tests, data):
+    """The first row of each command with the files that it names, in a folder; the answer is the rows."""
+    rows = {}
+    for row in (self_test.DATA / "rows.txt").read_text().splitlines():
+        rows.setdefault((row.split(" ")[2], row.split(" ")[1] == "0"), row)
+    for row in rows.values():
+        for name in [row.split(" ")[0], *(it for it in row.split(" ")[3:] if "." in it)]:
+            # of a row without @ the name stands for its answer alone
+            if (self_test.DATA / name).exists():
+                shutil.copy(self_test.DATA / name, data / name)
+        shutil.copy(self_test.DATA / f"{row.split(' ')[0]}.txt", data)
+    return list(rows.values())
+
+
+def try_self_test(tests):
+    """Each sort of line passes as it stands, and fails once with one byte of what is expected changed."""
+    whole, data = self_test.DATA, tests.path("data")
+    data.mkdir()
+    try:
+        rows = some_rows(tests, data)
+        tests.check("commands of rows", {row.split(" ")[2] for row in rows}, {"run", "sim", "dis", "asm", "replay", "debug", "ckpt", "resume", "abi-check", "vectors", "gen", "bench"})
+        self_test.DATA = data
+        counts = lambda result: (result.passed, len(result.failures))
+        tests.check("rows", counts(self_test.try_rows(tests.smemu, rows)), (len(rows), 0))
+        changed = 0
+        for row in rows:
+            answer = data / f"{row.split(' ')[0]}.txt"
+            kept = answer.read_bytes()
+            if kept:
+                answer.write_bytes(kept[:-2] + bytes((kept[-2] ^ 1,)) + kept[-1:])
+                result = self_test.try_rows(tests.smemu, [row])
+                tests.check(f"a byte of {row}", [counts(result), result.failures[0].splitlines()[1].startswith(f"  again: cd {data} && {tests.smemu} ")], [(0, 1), True])
+                answer.write_bytes(kept)
+                changed += 1
+        tests.check("changed rows", changed >= 12, True)
+        self_test.DATA = whole
+        for name, text in (("changed.txt", "bad file: truncated 0|"), ("altered.txt", "bad report: line 1: header|")):
+            *_, group, cases = next(it for it in self_test.tasks_of_changes(tests.smemu) if it[2] == name)
+            cases = cases[:9]
+            tests.check(name, counts(self_test.try_cases(tests.smemu, name, group, cases)), (9, 0))
+            at = next(at for at, case in enumerate(cases) if text in case)
+            wrong = [*cases[:at], cases[at].replace(text, text.replace(":", ";", 1)), *cases[at + 1:]]
+            tests.check(f"a byte of {name}", counts(self_test.try_cases(tests.smemu, name, group, wrong)), (8, 1))
+            wrong = [cases[0].replace("\t", "1\t", 1), *cases[1:]]
+            tests.check(f"a status of {name}", counts(self_test.try_cases(tests.smemu, name, group, wrong)), (8, 1))
+        self_test.DATA = data
+        for name, function, old, new in (("words.tsv", self_test.try_words, "w21", "w22"), ("texts.tsv", self_test.try_words, "x23", "x24"),
+                                         ("no_row.tsv", lambda smemu, _: self_test.try_no_row(smemu), "00190239", "1e600000\nd503201f"),
+                                         ("faults.tsv", lambda smemu, _: self_test.try_faults(smemu), "extra 9", "extra 8")):
+            lines = (whole / name).read_text().splitlines(keepends=True)[:40]
+            for text, wanted in (("".join(lines), (40, 0)), ("".join(lines).replace(old, new, 1), (40 if "\n" in new else 39, 1))):
+                (data / name).write_text(text)
+                tests.check(f"{name}, {wanted}", counts(function(tests.smemu, name)), wanted)
+    finally:
+        self_test.DATA = whole
+
+
 # build systems
 
 
@@ -536,7 +597,7 @@ def main():
     smemu, only = pathlib.Path(asked.program or emulator.find()).resolve(), asked.only
     with tempfile.TemporaryDirectory() as folder:
         tests = Tests(str(smemu), folder)
-        for test in (try_helps, try_scripts, try_threads, try_bounds, try_names, try_marks, try_vector_faults, try_plan_faults, try_terminal, try_sources, try_elsewhere, try_slurm, try_refused, try_reduction, try_cmake, try_meson, try_lit, try_cargo):
+        for test in (try_helps, try_scripts, try_threads, try_bounds, try_names, try_marks, try_vector_faults, try_plan_faults, try_terminal, try_sources, try_elsewhere, try_slurm, try_refused, try_reduction, try_self_test, try_cmake, try_meson, try_lit, try_cargo):
             # that of threads makes the program which others take
             if only in test.__name__ or test is try_threads:
                 test(tests)
