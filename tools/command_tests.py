@@ -163,7 +163,8 @@ def try_bounds(tests):
     status, said = tests.run(tests.wrapper, "za-calls", stripped, tests.report(stripped, "stripped", "--svl", 128))
     tests.check("no section table", [status, said.splitlines()[-1]], [3, "not looked at: all calls, since the program has no section table"])
     program, whole = tests.path("two.elf"), tests.path("two.report")
-    for words, last in ((("--most", 1), "not looked at: counts of thread 1 from 5 on (--most 1)"), (("--last", "--most", 1), "not looked at: counts of thread 1 below 14 (--most 1)")):
+    for words, last in ((("--most", 1), "not looked at: counts of thread 1 from 5 on (--most 1)"),
+                        (("--last", "--most", 1), "not looked at: counts of thread 1 below 14 (--most 1)")):
         status, said = tests.run(tests.wrapper, "when", program, whole, 1, "za", *words)
         tests.check(f"when {words}", [status, said.splitlines()[-1]], [3, last])
     for words in (("--last",), ("--most", 99), ()):
@@ -234,10 +235,13 @@ def try_vector_faults(tests):
             if (found and f"bad vectors: line {found[0]}\n") != (said.stdout if said.returncode else None):
                 wrong.append((path.name, changed, found))
     tests.check("lines of vectors", [wrong, sorted(tried), min(tried.values()) > 20], [[], [0, 14], True])
-    for line, column, why in (("ab010020 x1=80", 13, "a number has 16 hexadecimal digits"), ("ab010020 q=1", 10, "a field is KEY=VALUE"), ("AB010020", 1, "a line begins with a word"),
-                              ("ab010020 sp=0000000000000001 x1=0000000000000001", 30, "x1 is to stand before sp"), ("ab010020 za0=00", 14, "ZA is there where svcr has bit 1"),
-                              ("ab010020 z1=00", 13, "z1 has 16 bytes here, 32 digits, and this is 1"), ("ab010020 svcr=1 z1=00", 20, "z1 has 32 bytes here"),
-                              ("ab010020 ", 10, "between two fields"), ("ab010020\r", 9, "a line ends with a line feed alone"), ("ab010020 # a comment", 10, "a field is KEY=VALUE")):
+    for line, column, why in (
+            ("ab010020 x1=80", 13, "a number has 16 hexadecimal digits"), ("ab010020 q=1", 10, "a field is KEY=VALUE"),
+            ("AB010020", 1, "a line begins with a word"), ("ab010020 za0=00", 14, "ZA is there where svcr has bit 1"),
+            ("ab010020 sp=0000000000000001 x1=0000000000000001", 30, "x1 is to stand before sp"),
+            ("ab010020 z1=00", 13, "z1 has 16 bytes here, 32 digits, and this is 1"), ("ab010020 svcr=1 z1=00", 20, "z1 has 32 bytes here"),
+            ("ab010020 ", 10, "between two fields"), ("ab010020\r", 9, "a line ends with a line feed alone"),
+            ("ab010020 # a comment", 10, "a field is KEY=VALUE")):
         tests.path("one.vectors").write_bytes(line.encode())
         status, said = tests.run(TOP / "tools/vectors.py", "check", "one.vectors")
         wanted = f"line 1, column {column}: {why}"
@@ -248,10 +252,12 @@ def try_plan_faults(tests):
     """Of lines of plans and of scripts the kind of fault is the emulator's, so the word that is marked is the one."""
     rng, wrong, kinds = random.Random(2), [], collections.Counter()
     program, whole = tests.path("two.elf"), tests.path("two.report")
-    plans, scripts = ["fetch 0", "run 12 4294967295", "offer 1", "next 0"], ["slice s 1 h 0", "mem 0x400000 16", "break 0x40", "step 3", "back 0", "goto 10", "where", "regs", "za"]
+    plans = ["fetch 0", "run 12 4294967295", "offer 1", "next 0"]
+    scripts = ["slice s 1 h 0", "mem 0x400000 16", "break 0x40", "step 3", "back 0", "goto 10", "where", "regs", "za"]
+    ends = ("4294967296", "4096", "4097", "0x", "00", "", "-1", "v", "0 0")
     for shapes, lines, command in ((at_fault.PLAN, plans, ("sim", program)), (at_fault.SCRIPT, scripts, ("debug", program, whole, "0"))):
         for line in lines:
-            for changed in (*mutations(line, rng), *(f"{line.rsplit(' ', 1)[0]} {it}" for it in ("4294967296", "4096", "4097", "0x", "00", "", "-1", "v", "0 0"))):
+            for changed in (*mutations(line, rng), *(f"{line.rsplit(' ', 1)[0]} {it}" for it in ends)):
                 if "\r" in changed:
                     continue
                 file = tests.path("changed.plan")
@@ -377,7 +383,8 @@ def try_slurm(tests):
     tests.path("programs.txt").write_text("two.elf\n\nsix.s\n")
     tests.path("six.s").write_text(SIX)
     before = set(os.listdir(tests.folder))
-    for job, status, said in ((2, 2, "slurm.sh: line 2 of programs.txt has no program\n"), (3, 1, "slurm.sh: six.s: bad file: notelf\n"), (4, 2, "slurm.sh: line 4 of programs.txt has no program\n")):
+    for job, status, said in ((2, 2, "slurm.sh: line 2 of programs.txt has no program\n"), (3, 1, "slurm.sh: six.s: bad file: notelf\n"),
+                              (4, 2, "slurm.sh: line 4 of programs.txt has no program\n")):
         ended = subprocess.run(["examples/ci/slurm.sh"], cwd=tests.folder, env={**tests.environment, "SMEMU": tests.smemu, "SLURM_ARRAY_TASK_ID": str(job)},
                                stdout=subprocess.PIPE, stderr=subprocess.STDOUT, text=True)
         tests.check(f"job {job}", [ended.returncode, ended.stdout, set(os.listdir(tests.folder)) - before], [status, said, set()])
@@ -422,7 +429,8 @@ def try_reduction(tests):
     """A word that a compiler made is shown with its function, its line, and what FROM_C.md says to write."""
     if not tests.needs("clang-19", "ld.lld-19", "llvm-objdump-19", "llvm-symbolizer-19"):
         return
-    tests.path("sum.c").write_text("#include <arm_sve.h>\nstatic int x;\nint *other(void) { return &x; }\nunsigned long sum(svuint8_t v)\n{\n    return svaddv(svptrue_b8(), v);\n}\n")
+    tests.path("sum.c").write_text("#include <arm_sve.h>\nstatic int x;\nint *other(void) { return &x; }\nunsigned long sum(svuint8_t v)\n{\n"
+                                   "    return svaddv(svptrue_b8(), v);\n}\n")
     options = "--target=aarch64-linux-gnu -g -O2 -march=armv8.1-a+sve2 -mno-implicit-float -ffreestanding".split()
     tests.run("clang-19", *options, "-c", "sum.c")
     tests.run("ld.lld-19", "-static", "-z", "max-page-size=4096", "-e", "sum", "-o", "sum.elf", "sum.o")
@@ -589,6 +597,10 @@ def try_cargo(tests):
     tests.check("cargo run, with a word", [status, "smemu exec: one: a guest has no arguments" in said], [125, True])
 
 
+PARTS = (try_helps, try_scripts, try_threads, try_bounds, try_names, try_marks, try_vector_faults, try_plan_faults, try_terminal,
+         try_sources, try_elsewhere, try_slurm, try_refused, try_reduction, try_self_test, try_cmake, try_meson, try_lit, try_cargo)
+
+
 def main():
     words = argparse.ArgumentParser(description=__doc__.splitlines()[0])
     words.add_argument("program", nargs="?", metavar="PROGRAM")
@@ -597,7 +609,7 @@ def main():
     smemu, only = pathlib.Path(asked.program or emulator.find()).resolve(), asked.only
     with tempfile.TemporaryDirectory() as folder:
         tests = Tests(str(smemu), folder)
-        for test in (try_helps, try_scripts, try_threads, try_bounds, try_names, try_marks, try_vector_faults, try_plan_faults, try_terminal, try_sources, try_elsewhere, try_slurm, try_refused, try_reduction, try_self_test, try_cmake, try_meson, try_lit, try_cargo):
+        for test in PARTS:
             # that of threads makes the program which others take
             if only in test.__name__ or test is try_threads:
                 test(tests)

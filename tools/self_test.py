@@ -81,7 +81,8 @@ def try_rows(smemu, rows):
         name, status, words = row.split(" ", 2)
         words = [name if word == "@" else word for word in words.split()]
         found, wanted = answer(smemu, words), (int(status), (DATA / f"{name}.txt").read_bytes())
-        result.check(found == wanted, lambda: [f"rows: {name}", again(smemu, words), f"wanted: {brief(*wanted)}, as in {name}.txt", f"found:  {brief(*found)}"])
+        shown = lambda: [f"rows: {name}", again(smemu, words), f"wanted: {brief(*wanted)}, as in {name}.txt", f"found:  {brief(*found)}"]
+        result.check(found == wanted, shown)
     return result
 
 
@@ -126,8 +127,8 @@ def try_cases(smemu, name, group, cases):
             file, status = after_changes(base, case)
             pathlib.Path(changed.name).write_bytes(file)
             found = answer(smemu, words)
-            is_same = is_text(found[1], file, words[-1], text)
-            result.check(found[0] == status and is_same == (name != DIFFERING), lambda: failed_case(smemu, name, group, case, file, words, status, text, found))
+            is_right = found[0] == status and is_text(found[1], file, words[-1], text) == (name != DIFFERING)
+            result.check(is_right, lambda: failed_case(smemu, name, group, case, file, words, status, text, found))
     return result
 
 
@@ -137,7 +138,8 @@ def failed_case(smemu, name, group, case, file, words, status, text, found):
         kept.write(file)
     changed = next((word for word in words if os.sep in word), None)
     wanted = f"wanted: status {status}, " + ("another text than " if name == DIFFERING else "") + text[:100]
-    return [f"changes: {name}: {group}: {case[:60]}", again(smemu, [kept.name if word == changed else word for word in words]), wanted, f"found:  {brief(*found)}"]
+    words = [kept.name if word == changed else word for word in words]
+    return [f"changes: {name}: {group}: {case[:60]}", again(smemu, words), wanted, f"found:  {brief(*found)}"]
 
 
 def tasks_of_changes(smemu):
@@ -171,7 +173,8 @@ def assembled(smemu, texts, result, name):
                 break
             at, text = left.pop(int(refused[1]) - 2)
             line = said.decode().partition("\n")[0]
-            result.check(False, lambda: [f"words: {name}: {text}", f"again: printf '_start:\\n    {text}\\n' | {smemu} asm /dev/stdin", f"found:  {line}"])
+            command = f"printf '_start:\\n    {text}\\n' | {smemu} asm /dev/stdin"
+            result.check(False, lambda: [f"words: {name}: {text}", f"again: {command}", f"found:  {line}"])
         program.write_bytes(said)
         lines = answer(smemu, ["dis", str(program)])[1].decode().splitlines()
     for (at, _), line in zip(left, lines):
@@ -189,8 +192,8 @@ def try_words(smemu, name):
         is_alias = row[1] == "alias"
         if it:
             is_right = it[0] == wanted[0] and (it[1] == wanted[1]) == (not is_alias)
-            result.check(is_right, lambda: [f"words: {name}: {' '.join(row)}", f"again: printf '_start:\\n    {row[-1]}\\n' > one.s; {smemu} asm one.s > one.elf; {smemu} dis one.elf",
-                                            f"found:  {' '.join(it)}"])
+            command = f"printf '_start:\\n    {row[-1]}\\n' > one.s; {smemu} asm one.s > one.elf; {smemu} dis one.elf"
+            result.check(is_right, lambda: [f"words: {name}: {' '.join(row)}", f"again: {command}", f"found:  {' '.join(it)}"])
     return result
 
 
@@ -203,7 +206,8 @@ def try_no_row(smemu):
         answers = answer(smemu, ["vectors", file.name])[1].decode().splitlines()
     for at, word in enumerate(words):
         found = answers[at] if at < len(answers) else "nothing"
-        result.check(found == f"raise undefined {word}", lambda: [f"words: no_row.tsv: {word}", f"again: echo {word} | {smemu} vectors /dev/stdin", f"found:  {found}"])
+        shown = lambda: [f"words: no_row.tsv: {word}", f"again: echo {word} | {smemu} vectors /dev/stdin", f"found:  {found}"]
+        result.check(found == f"raise undefined {word}", shown)
     return result
 
 
@@ -216,7 +220,8 @@ def try_faults(smemu):
             pathlib.Path(source.name).write_text(f"_start:\n    nop\n{line}\n")
             found = answer(smemu, ["asm", source.name])
             wanted = (7, f"bad source: line 3: line {fault}\n".encode())
-            result.check(found == wanted, lambda: [f"words: faults.tsv: {line}", f"wanted: {brief(*wanted)}", f"found:  {brief(*found)}"])
+            shown = lambda: [f"words: faults.tsv: {line}", f"wanted: {brief(*wanted)}", f"found:  {brief(*found)}"]
+            result.check(found == wanted, shown)
     return result
 
 
