@@ -10,5 +10,14 @@
 #SBATCH --time=00:10:00
 set -eu
 program=$(sed -n "${SLURM_ARRAY_TASK_ID}p" programs.txt)
-"${SMEMU:-smemu}" run "$program" > "$program.part"
+if [ -z "$program" ]; then
+    echo "slurm.sh: line $SLURM_ARRAY_TASK_ID of programs.txt has no program" >&2
+    exit 2
+fi
+# a run that fails says why, and leaves no file
+trap 'rm -f "$program.part"' EXIT
+if ! "${SMEMU:-smemu}" run "$program" > "$program.part"; then
+    echo "slurm.sh: $program: $(head -n 1 "$program.part")" >&2
+    exit 1
+fi
 mv "$program.part" "${program%.elf}.report"
