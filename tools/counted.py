@@ -21,7 +21,7 @@ import reports
 
 # the counts that one call of `debug` goes over, the bytes of it that are read at once, and the processes
 LEAST_PART, MOST_PART = 20_000, 4_000_000
-BLOCK = 1 << 22
+BLOCK = 1 << 16
 PROCESSES = min(4, os.cpu_count() or 1)
 # a run of addresses that is longer is not looked for among those that were there before
 MOST_KEPT = 64

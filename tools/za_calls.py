@@ -19,9 +19,12 @@ import argparse
 import collections
 import re
 
+import call_faults
+import counted
 import emulator
 import places
 import recorded
+import reports
 
 CALL = re.compile(r"^([0-9a-f]{16}) [0-9a-f]{8} (blr? .*)", re.MULTILINE)
 KINDS = ("kept", "saved", "restored", "shared", "changed", "lost")
@@ -176,6 +179,15 @@ def lines_of(calls, known, show_all):
         yield f"{known.text(address)} calls {to}: " + ", ".join(f"{kind} {counts[kind]}" for kind in (*KINDS, "not returned") if counts[kind]) + span
 
 
+def other_faults(words, thread, listing, known):
+    """The calls that leave something else than ZA otherwise than AAPCS64 has it, or a save that is not restored."""
+    texts = {int(at, 16): text for at, _, text in counted.LISTED.findall(listing)}
+    block = reports.read(words.report).threads[words.thread]
+    follows = lambda address: "all" in words.vectors or known.function(address) in words.vectors
+    found = call_faults.Checker(thread, block, texts, known.function, follows).check()
+    return [it for it in found if it.kind != "few slices" or not words.partial]
+
+
 def abi_check(words):
     """What abi-check says."""
     try:
@@ -191,6 +203,8 @@ def main():
     parser.add_argument("thread", metavar="THREAD", type=int, nargs="?", default=0)
     parser.add_argument("--all", action="store_true", help="a line for each place of calls")
     parser.add_argument("--shares", action="append", default=[], metavar="FUNCTION", help="a function that is to change its caller's ZA")
+    parser.add_argument("--vectors", action="append", default=[], metavar="FUNCTION", help="a function that keeps Z8 to Z23 and P4 to P15; all for each")
+    parser.add_argument("--partial", action="store_true", help="a block may name fewer slices than ZA has")
     parser.add_argument("--most", type=int, default=10000, metavar="N", help="look at the first N calls with ZA on (10000)")
     words = parser.parse_args()
     thread = recorded.Recorded(words.program, words.report, words.thread)
@@ -200,7 +214,8 @@ def main():
     read_returns(thread, calls)
     known = places.Places(words.program)
     judge(calls, thread.rows, lambda address: known.function(address) in words.shares)
-    for line in lines_of(calls, known, words.all):
+    faults = other_faults(words, thread, listing, known)
+    for line in (*lines_of(calls, known, words.all), *call_faults.lines_of(faults, known)):
         print(line)
     counts = collections.Counter(call.kind for call in calls)
     texts = [f"{kind} {counts[kind]}" for kind in KINDS] + [f"not returned {counts[None]}"]
@@ -208,7 +223,7 @@ def main():
     if not listing:
         print("the program has no section table, so its calls are not known")
     print(f"abi-check: {abi_check(words)}")
-    return 1 if any(counts[kind] for kind in FAULTS) else 0
+    return 1 if faults or any(counts[kind] for kind in FAULTS) else 0
 
 
 if __name__ == "__main__":
