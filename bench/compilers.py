@@ -53,7 +53,7 @@ def said(*words):
 def refused_words(smemu, program):
     """The mnemonics of the words that are refused."""
     lines = said(sys.executable, str(TOP / "tools" / "refused.py"), program, "--smemu", smemu).stdout.splitlines()
-    return [" ".join(line.split(": ", 1)[1].split()[:1]) for line in lines[:-1]]
+    return [line.split(": ", 1)[1].split()[0] for line in lines if line.startswith("0x")]
 
 
 def trial(asked, folder, kind, compiler, options, number):

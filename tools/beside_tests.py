@@ -474,7 +474,7 @@ def try_za(tests):
     tests.check("za_calls.py of lost.s", tests.run(TOOLS / "za_calls.py", program, whole),
                 (1, "0000000000400014 calls 0000000000400038: changed 1: counts 5 to 9\n"
                     "calls 1, with ZA on 1: kept 0, saved 0, restored 0, shared 0, changed 1, lost 0, not returned 0\n"
-                    "abi-check: abi yes calls 0 open 0\n"))
+                    "abi-check: no call of this run is marked\n"))
     threads = by_budget(tests, program, reports.read(whole).threads[0].count, "--svl", SVL)
     rows = lambda thread: [row for row in (thread.za or []) if any(row)]
     changes = [n for n in range(1, len(threads) - 1) if rows(threads[n]) != rows(threads[n + 1])]
@@ -572,9 +572,12 @@ def try_races(tests):
     order = said[next(at for at, line in enumerate(said) if "word 1 = 1" in line) + 1:][:10]
     loads = [line.strip() for line in order if "ldr x5" in line]
     tests.check("an order that loses an addition", sorted(loads), [f"{at}: 0000000000400014: ldr x5, [x2, #8]: ld 1 -> 0" for at in (0, 1)])
-    tests.check("one change", tests.run(TOOLS / "outcomes.py", race, "--threads", 2, "--switches", 1, "--plans", "")[0], 0)
-    status, said = tests.run(TOOLS / "outcomes.py", race, "--threads", 2, "--states", 20, "--plans", "")
-    tests.check("a bound", "the bound on states was met" in said, True)
+    # orders that lose an addition change the thread twice
+    for option, number, left in (("--switches", 1, "orders with more than 1 change of thread (--switches 1)"), ("--states", 20, "orders beyond the first 20 states (--states 20)")):
+        status, said = tests.run(TOOLS / "outcomes.py", race, "--threads", 2, option, number, "--plans", "")
+        tests.check(option, [status, said.splitlines()[1].split(" ", 3)[3], said.splitlines()[2:]], [3, "exit 0 0, word 1 = 2", [f"not looked at: {left}"]])
+    status, said = tests.run(TOOLS / "outcomes.py", race, "--threads", 2, "--switches", 2, "--plans", "")
+    tests.check("a fault and a bound", [status, said.splitlines()[-1]], [1, "not looked at: orders with more than 2 changes of thread (--switches 2)"])
     right = tests.assemble("right", source.replace("    ldar x4, [x2]\n", "    swpa x3, x4, [x2]\n").replace("    stlr x3, [x2]\n", ""))
     status, said = tests.run(TOOLS / "outcomes.py", right, "--threads", 3, "--plans", "", "--jobs", 2)
     tests.check("a right lock", [status, said.splitlines()[1].split(" ", 3)[3]], [0, "exit 0 0 0, word 1 = 3"])
@@ -589,10 +592,13 @@ def try_disturbances(tests):
     threads = tests.path("threads.elf")
     said = tests.run(TOOLS / "outcomes.py", threads, "--threads", 2, "--svl", SVL, "--move", "--plans", "")
     tests.check("moves", [said[0], said[1].splitlines()[-1]], [0, "moved to another core at each of 28 places, 20 of them with ZA on: all is as before"])
+    status, said = tests.run(TOOLS / "outcomes.py", threads, "--threads", 2, "--svl", SVL, "--move", "--plans", "", "--most", 5)
+    tests.check("some moves", [status, said.splitlines()[-1]], [3, "not looked at: 23 of 28 places of a move (--most 5)"])
     source = (TOP / "examples/signals.s").read_text()
     right = tests.assemble("signals", source)
     status, said = tests.run(TOOLS / "outcomes.py", right, "--signal", 5, "--svl", SVL, "--most", 40)
-    tests.check("signals.s", [status, said.splitlines()[2]], [0, "  after the handler all is as before at 8 places, not at 0"])
+    tests.check("signals.s", [status, said.splitlines()[1], said.splitlines()[-1]],
+                [3, "  after the handler all is as before at 8 places, not at 0", "not looked at: counts after the first 40 at which it may come (--most 40)"])
     without = "    mov x10, sp\n    ldr x9, [x10, #288]\n    and x9, x9, #1\n    str x9, [x10, #288]\n    mov w9, #912\n    str w9, [x10, #8]\n"
     broken = tests.assemble("broken", source.replace("    mov x8, #139", without + "    mov x8, #139"))
     status, said = tests.run(TOOLS / "outcomes.py", broken, "--signal", 5, "--svl", SVL, "--most", 40)

@@ -84,7 +84,7 @@ class Checker:
     def __init__(self, thread, block, texts, name_of, follows_vectors):
         self.thread, self.block, self.texts, self.name_of, self.follows_vectors = thread, block, texts, name_of, follows_vectors
         self.signals = counted.Signals(thread, block, texts)
-        self.faults, self.levels, self.frames, self.number, self.is_cut = [], [Level()], {}, 0, False
+        self.faults, self.levels, self.frames, self.number, self.left = [], [Level()], {}, 0, None
 
     # what happened, in order
 
@@ -95,9 +95,9 @@ class Checker:
         """The counts of calls, returns and deliveries, and of what touches ZA if some call is made with ZA dormant."""
         found = self.hits(CALL, CALLS) + self.hits(BACK, BACKS)
         if len(found) > MOST:
-            found = sorted(found)[:MOST]
-            self.is_cut = True
-        last = max(found, default=(0,))[0] if self.is_cut else self.thread.end
+            found.sort()
+            self.left = found[MOST][0]
+        last = self.thread.end if self.left is None else self.left - 1
         if any(CLEAR.match(text) for text in self.texts.values()):
             found += self.hits(CLEAR, CLEARS) + self.hits(USE, USES) + self.hits(WRITE, WRITES)
         # an instruction at whose count a handler begins is not executed then
@@ -135,7 +135,6 @@ class Checker:
 
     def check(self):
         """Follows all calls. Gives the faults, in order of their counts."""
-        self.start = self.thread.state(0).pc
         for count, kind, address, states in self.states(self.events()):
             level = self.levels[-1]
             if kind == DELIVERY:
@@ -155,7 +154,7 @@ class Checker:
                     debt.is_cleared = True
             else:
                 self.touch(level, count, address, kind == USES)
-        if self.block.stop.name == "raised" and not self.is_cut:
+        if self.block.stop.name == "raised" and self.left is None:
             for debt in (it for level in self.levels for it in level.debts if it.is_saved):
                 self.tell("not finished", debt.call, self.thread.end, self.thread.state(self.thread.end).pc)
         return sorted(self.faults, key=lambda it: (it.call.count, it.count))
@@ -174,9 +173,7 @@ class Checker:
         if count in self.signals.deliveries:
             target = state.number("pc")
         call = Call(self.number, count, address, target, state)
-        if self.name_of(target) == RESTORE and not self.is_restore_in_order(level, call):
-            pass
-        elif state.is_on:
+        if (self.name_of(target) != RESTORE or self.is_restore_in_order(level, call)) and state.is_on:
             for debt in self.current(level):
                 if call.pointer and call.pointer == debt.call.pointer:
                     # one call after the other with the same block: the last of them is to be followed by the restore

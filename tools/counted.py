@@ -35,9 +35,14 @@ SET_HANDLER, HANDLER_RETURN = 134, 139
 FRAME, FRAME_BYTES = struct.Struct("<8sII31QQQ"), 280
 
 
+def texts_of(listing):
+    """The text of the instruction at each address of a listing."""
+    return {int(at, 16): text for at, _, text in LISTED.findall(listing)}
+
+
 def listing(program):
     """The text of the instruction at each address of a program with a section table."""
-    return {int(at, 16): text for at, _, text in LISTED.findall(emulator.call([emulator.find(), "dis", program]).decode())}
+    return texts_of(emulator.call([emulator.find(), "dis", program]).decode())
 
 
 def kind_of(text, has_signals):

@@ -59,7 +59,7 @@ def moved_plan(world, pieces, at, turn):
 
 
 def try_moves(world, plans, words):
-    """Tries plans with a thread moved to another core, at one place after the other; tells whether something is another then."""
+    """Tries plans with a thread moved to another core, at one place after the other; tells whether something is another then, and what was not tried."""
     tried, number = move_places(plans, words.most)
     whole = [world.seen(pieces).text for pieces in plans]
 
@@ -76,7 +76,7 @@ def try_moves(world, plans, words):
     with_za = sum(has_za for has_za, _ in found)
     print(f"moved to another core at {where}, {with_za} of them with ZA on: " + ("something is another" if faults else "all is as before"))
     show_faults(faults)
-    return bool(faults)
+    return bool(faults), [f"{number - len(tried)} of {number} places of a move (--most {words.most})"] if len(tried) < number else []
 
 
 # signals
@@ -235,8 +235,6 @@ def show_signal(words, posted, tried, alike, is_cut):
     how = "by --slice" if posted.is_own else f"posted by thread {posted.sender}"
     print(f"signal {words.signal} comes to thread {posted.receiver} at {len(tried)} places, {how}"
           + (f"; {alike} more have the registers and ZA of one of these" if alike else ""))
-    if is_cut:
-        print(f"  the bound was met: only the first {words.most} counts were looked at")
     faults, waits = [place for place in tried if place.changed], [place for place in tried if place.waits]
     print(f"  after the handler all is as before at {len(tried) - len(faults) - len(waits)} places, not at {len(faults)}")
     if waits:
@@ -247,4 +245,6 @@ def show_signal(words, posted, tried, alike, is_cut):
         ends.setdefault(place.end, []).append(place.count)
     for end, counts in ends.items():
         print(f"  {len(counts)} end so: {end}" + (f" (the first at count {counts[0]})" if len(ends) > 1 else ""))
-    return 1 if faults or len(ends) > 1 else 0
+    if is_cut:
+        print(f"not looked at: counts after the first {words.most} at which it may come (--most {words.most})")
+    return 1 if faults or len(ends) > 1 else emulator.NOT_ALL if is_cut else 0

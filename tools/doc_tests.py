@@ -24,7 +24,9 @@ TOP = pathlib.Path(__file__).resolve().parent.parent
 PAGES = ("README.md", *(f"docs/{name}.md" for name in ("TUTORIAL", "FROM_C", "WORLDS", "DEBUGGER", "REPORT", "KERNEL", "GDB", "OUTCOMES", "LOST_ZA", "LAZY_SAVING", "CHECKPOINT", "VECTORS", "CI", "FIND_IT")))
 # tools that a command may need, and of some the least version
 TOOLS = {"clang-19": 0, "ld.lld-19": 0, "aarch64-linux-gnu-gcc": 0, "aarch64-linux-gnu-ld": 0, "qemu-aarch64": 10, "llvm-symbolizer-19": 0,
-         "parallel": 0, "xz": 0, "gdb-multiarch": 0}
+         "parallel": 0, "xz": 0, "gdb-multiarch": 0, "cmake": 0, "ctest": 0, "meson": 0, "/usr/lib/llvm-19/build/utils/lit/lit.py": 0}
+# of these, those that start Clang and lld by files that the command does not show
+BUILDERS = {"cmake", "ctest", "meson", "/usr/lib/llvm-19/build/utils/lit/lit.py"}
 SECONDS = 60
 
 
@@ -107,7 +109,8 @@ def try_page(page, program, there):
         make_folder(folder, program)
         for number, command, wanted in commands(page):
             words = set(re.findall(r"[\w./-]+", command))
-            if words & lacking or any(not there[tool] for tool in words & set(TOOLS)):
+            needed = words & set(TOOLS) | ({"clang-19", "ld.lld-19"} if words & BUILDERS else set())
+            if words & lacking or any(not there[tool] for tool in needed):
                 passed += 1
                 lacking |= {word for word in words if "." in word and not (folder / word).exists()} - set(TOOLS)
                 continue

@@ -12,6 +12,8 @@ import tempfile
 import reports
 
 TOP = pathlib.Path(__file__).resolve().parent.parent
+# the status of a script that found nothing wrong, and did not look at all that it was to look at
+NOT_ALL = 3
 
 
 class Refused(Exception):

@@ -14,7 +14,8 @@ exit and words where nothing is said. --switches N tries orders with at most N c
 --order shows of each outcome the operations of an order that makes it: thread, place, instruction, and what it found or left.
 --move tries each plan again with a thread moved to another core, one place at a time: nothing may change.
 --signal S lets signal S, which the program posts, come at each place in turn, and says whether all is after the handler as it was before.
-Both try at most --most N places (1000). The status is 1 where there is more than one outcome, a move changes something or a signal does.
+Both try at most --most N places (1000). The status is 1 where there is more than one outcome, a move changes something or a signal does; else it is 3
+where a bound was met (--switches, --states, --most), and the last line says what was not looked at.
 """
 import argparse
 import collections
@@ -339,7 +340,7 @@ def order_of(search, node, seen, program, report):
 
 
 def show_outcomes(search, is_cut, words):
-    """Writes each outcome with its orders and its plan; the answer is whether there is one, in which all threads have stopped."""
+    """Writes each outcome with its orders and its plan; the answer is whether there is more than one, or one in which not all threads have stopped."""
     limit = None if search.is_all and not is_cut else search.level - 1
     counts = search.orders(limit)
     print(head(search, is_cut, sum(counts.values()), words))
@@ -356,7 +357,14 @@ def show_outcomes(search, is_cut, words):
             if words.order:
                 for line in order_of(search, node, seen, words.program, f"{prefix}.report"):
                     print(f"  {' ' * width}   {line}")
-    return len(lines) == 1 and not endless
+    return len(lines) > 1 or bool(endless)
+
+
+def unseen(search, is_cut, words):
+    """What the bounds of a search left."""
+    if is_cut:
+        return [f"orders beyond the first {words.states} states (--states {words.states})"]
+    return [] if search.is_all else [f"orders with more than {changes(words.switches)} (--switches {words.switches})"]
 
 
 def arguments():
@@ -390,10 +398,14 @@ def main():
     if words.signal is not None:
         return disturbances.try_signal(words, options_of(words), lambda seen: outcome_of(seen, words.show))
     search, is_cut = look(words)
-    is_one = show_outcomes(search, is_cut, words)
+    is_wrong, left = show_outcomes(search, is_cut, words), unseen(search, is_cut, words)
     plans = [node.state.pieces for node in search.outcomes.values()]
-    changed = disturbances.try_moves(search.world, plans, words) if words.move else False
-    return 0 if is_one and not changed else 1
+    if words.move:
+        is_changed, more_left = disturbances.try_moves(search.world, plans, words)
+        is_wrong, left = is_wrong or is_changed, left + more_left
+    if left:
+        print(f"not looked at: {', '.join(left)}")
+    return 1 if is_wrong else emulator.NOT_ALL if left else 0
 
 
 if __name__ == "__main__":

@@ -68,6 +68,11 @@ def constant_pages(program):
     return constant - written
 
 
+def threads_of(program, report_file):
+    """The numbers of the threads of a report. Refused where the emulator refuses one of the files, or the record of thread 0."""
+    return [block.number for block in Recorded(program, report_file, 0).report.threads]
+
+
 class Recorded:
     """A thread of a report. Refused where the emulator refuses one of the files, the thread or the record.
 

@@ -21,9 +21,11 @@ import tempfile
 
 sys.dont_write_bytecode = True
 import doc_tests
+import refused as refused_script
 import reports
 import show as show_script
 import vectors as vectors_script
+import verbs
 
 TOOLS = pathlib.Path(__file__).resolve().parent
 TOP, SAMPLES = TOOLS.parent, TOOLS / "samples"
@@ -350,10 +352,35 @@ def executing(folder):
         report.write_text(content)
         (folder / "status").write_text(str(status))
         yield what, ran(sys.executable, TOOLS / "execute.py", "any.elf", "--threads", 2, env={**os.environ, "SMEMU": str(smemu)}), wanted
+    yield from executing_words(folder)
     absent = str(folder / "absent")
     yield "no emulator", ran(sys.executable, TOOLS / "execute.py", "any.elf", env={**os.environ, "SMEMU": absent}), (
         125, "", f"{absent}: No such file or directory\n")
-    yield "no program", ran(sys.executable, TOOLS / "execute.py")[0], 125
+
+
+def executing_words(folder):
+    """The options go to `run` from before the program and from behind it, and nothing else does."""
+    smemu = program(folder / "words" / "smemu", f'#!/bin/sh\necho "$@" > "{folder}/words/given"\nexit 8\n')
+
+    def given(*words):
+        (folder / "words" / "given").write_text("nothing\n")
+        status, text, said = ran(sys.executable, TOOLS / "execute.py", *words, env={**os.environ, "SMEMU": str(smemu)})
+        return status, text, said.splitlines()[-1], (folder / "words" / "given").read_text().strip()
+
+    for words in (("any.elf",), ("--svl", 512, "any.elf"), ("any.elf", "--svl", 512), ("--vl", 256, "--svl", 512, "any.elf", "--threads", 2), ("--budget", "any.elf", "any.elf")):
+        at = 2 * (len(words) // 2) if words[0] == "--budget" else words.index("any.elf")
+        wanted = " ".join(map(str, ("run", words[at], *words[:at], *words[at + 1:])))
+        yield f"the words {words}", given(*words), (125, "", "smemu ended with status 8", wanted)
+    for words, said in (
+            (("any.elf", "one"), "one: a guest has no arguments, so after the program only options may stand: --vl"),
+            (("--svl", 512, "any.elf", "--verbose"), "--verbose: a guest has no arguments"),
+            (("--verbose", "any.elf"), "--verbose is no option: --vl --svl --slice --budget --threads --cores; of a file of that name write ./--verbose"),
+            (("any.elf", "--svl"), "--svl has no value"), (("--svl", 512), "there is no PROGRAM"), ((), "there is no PROGRAM")):
+        status, text, last, run_with = given(*words)
+        yield f"the words {words}", (status, text, last[:len(f"execute.py: {said}")], run_with), (125, "", f"execute.py: {said}", "nothing")
+    for word in ("-h", "--help"):
+        status, text, said = ran(sys.executable, TOOLS / "execute.py", word)
+        yield f"execute.py {word}", (status, text.splitlines()[0], said), (0, "usage: execute.py [OPTIONS] PROGRAM [OPTIONS]", "")
 
 
 def make_tree(folder, text):
@@ -381,6 +408,86 @@ def wrapping(folder):
         yield f"status {status}, quietly", ran(folder / "smemu", status, env={**os.environ, "SMEMU_QUIET": "1"}), (status, "the line\n", "")
     yield "--which", ran(folder / "smemu", "--which"), (0, f"{folder}/crates/smemu_cli/out/smemu_cli\n", "")
     yield from marking(folder)
+    yield from judging(folder)
+    yield from helping(folder)
+
+
+def judging(folder):
+    """What abi-check says is written as it is; where no call was marked a sentence stands beside it, on standard error."""
+    smemu, sentence = folder / "smemu", "smemu: no call of this run is marked, so none was judged\n"
+    for line, status, wanted in (("abi yes calls 0 open 0", 0, sentence), ("abi yes calls 0 open 1", 0, ""), ("abi yes calls 10 open 0", 0, ""), ("abi yes calls 0 open 0 ", 0, ""),
+                                 ("unlawful: count 1 pc 2 toodeep", 13, "smemu: ended with status 13; the line that says why stands in the output\n"),
+                                 ("", 8, "smemu: ended with status 8\n")):
+        program(folder / "crates/smemu_cli/out/smemu_cli", f"#!/bin/sh\n{'echo' if line else ':'} '{line}'\nexit {status}\n")
+        text = line and f"{line}\n"
+        yield f"abi-check, {line!r}", ran(smemu, "abi-check", "p", "r", 0), (status, text, wanted)
+        yield f"abi-check, {line!r}, quietly", ran(smemu, "abi-check", "p", "r", 0, env={**os.environ, "SMEMU_QUIET": "1"}), (status, text, "")
+        if not status:
+            yield f"another command, {line!r}", ran(smemu, "replay", "p", "r", 0), (status, text, "")
+    command = f"echo given | {smemu} abi-check /dev/stdin; {smemu} abi-check p > /dev/full; echo $?; {smemu} abi-check p | true; echo ${{PIPESTATUS[0]}}"
+    program(folder / "crates/smemu_cli/out/smemu_cli", '#!/bin/sh\n[ "$2" = p ] && head -c 100000 /dev/zero | tr "\\0" x || cat\n')
+    yield "abi-check, what it reads and where it writes", ran("bash", "-c", command)[:2], (0, "given\n5\n5\n")
+    program(folder / "crates/smemu_cli/out/smemu_cli", "#!/bin/sh\nkill -s TERM $$\n")
+    yield "abi-check, a signal", ran(smemu, "abi-check"), (-signal.SIGTERM, "", "")
+
+
+# a help in the form of the program's, and of each command what is to be shown of it
+HELP = """smemu runs programs.
+
+commands:
+  run PROGRAM   runs PROGRAM
+  sim PROGRAM PLAN
+                runs PROGRAM by PLAN,
+                on cores
+  dis PROGRAM   lists PROGRAM
+  bench N       runs workload N
+  --help        writes this text
+
+options:
+  --vl BITS     the length
+  --cores N     cores: 1 to 64; else 1
+
+statuses:
+  0   the text was written
+"""
+END = "\nsmemu --help has all commands, and what each exit status says.\n"
+HELPS = {
+    "run": "usage: smemu run PROGRAM [OPTIONS]\n  runs PROGRAM\n\n  --vl BITS     the length\n  --cores N     cores: 1 to 64; else 1\n" + END,
+    "sim": "usage: smemu sim PROGRAM PLAN [OPTIONS]\n  runs PROGRAM by PLAN,\n  on cores\n\n  --vl BITS     the length\n  --cores N     cores: 1 to 64; else 1\n" + END,
+    "dis": "usage: smemu dis PROGRAM\n  lists PROGRAM\n" + END,
+    "bench": "usage: smemu bench N [OPTIONS]\n  runs workload N\n\n  --cores N     cores: 1 to 64; else 1\n" + END,
+}
+
+
+def helping(folder):
+    """The program's help has the scripts below it; that of one command is a part of it; a word of a script starts the script, with the program."""
+    smemu = folder / "smemu"
+    built = program(folder / "crates/smemu_cli/out/smemu_cli", f"#!/bin/sh\n[ $# -eq 1 ] && [ $1 = --help ] && cat << 'END' || echo the program: $@\n{HELP}END\n")
+    program(folder / "tools/verbs.py", "import os, sys\nprint(sys.argv[1:], os.environ.get('SMEMU'))\n")
+    for word in ("--help", "-h", "help"):
+        status, text, said = ran(smemu, word)
+        own, _, scripts = text.partition("\nscripts, ")
+        yield f"the words {word}", (status, own, re.findall(r"(?m)^  ([a-z-]+) ", scripts), "no theorem covers them" in scripts, said), (
+            0, HELP, list(verbs.SCRIPTS), True, "")
+    for command, wanted in HELPS.items():
+        for word in ("--help", "-h"):
+            yield f"{command} {word}", ran(smemu, command, word), (0, wanted, "")
+    for words in (("run", "--help", "--vl"), ("what", "--help"), ("run",), ("--version",), ("--help", "--help")):
+        yield f"the words {words}", ran(smemu, *words), (0, f"the program: {' '.join(words)}\n", "")
+    without = {name: value for name, value in os.environ.items() if name != "SMEMU"}
+    for verb in verbs.SCRIPTS:
+        yield f"the script {verb}", ran(smemu, verb, "a b", "--c", env=without), (0, f"{[verb, 'a b', '--c']} {None if verb == 'show' else built}\n", "")
+    yield "a script and another program", ran(smemu, "when", env={**without, "SMEMU": "other"}), (0, "['when'] other\n", "")
+    for tool in ("bash", "dirname", "readlink"):
+        (folder / "few").mkdir(exist_ok=True)
+        os.symlink(shutil.which(tool), folder / "few" / tool)
+    yield "a script without python3", ran(shutil.which("bash"), smemu, "exec", "any.elf", env={"PATH": folder / "few"}), (
+        125, "", "smemu: exec is a script, and python3 is not there\n")
+    yield "no script", ran(sys.executable, TOOLS / "verbs.py", "run")[0], 1
+    for verb, script in verbs.SCRIPTS.items():
+        for word in ("--help", "-h"):
+            status, text, said = ran(sys.executable, TOOLS / "verbs.py", verb, word)
+            yield f"verbs.py {verb} {word}", (status, re.sub(r"\s+", " ", text)[:len(f"usage: smemu {verb} ")], said), (0, f"usage: smemu {verb} ", "")
 
 
 def marking(folder):
@@ -473,9 +580,32 @@ def vectoring(folder):
     yield from rereading()
 
 
+# what objdump says of a word, and with what the row of FROM_C.md begins that says what to write
+WRITTEN = (("fmov x0, d0", "`fmov x0, d0`"), ("stp d15, d14, [sp, #-64]!", "`stp d15, d14, ..`"), ("ldp d9, d8, [sp]", "`stp d15, d14, ..`"), ("stp d0, d1, [x0]", "all of"),
+           ("mad z0.s, p0/m, z1.s, z2.s", "`mad`"), ("adr z0.s, [z1.s, z0.s, lsl #1]", "`adr z0.s"), ("lastb s0, p0, z0.s", "`lastb s0"),
+           ("and z0.s, z0.s, #0xff", "`and z0.s"), ("uqadd z0.h, z0.h, #3", "`and z0.s"), ("dupm z0.s, #0xff00", "`and z0.s"), ("ld1rw { z0.s }, p0/z, [x0]", "`ld1rw`"),
+           ("udot z0.s, z1.b, z2.b", "`sdot`"), ("revw z0.d, p0/m, z1.d", "`revb`"), ("ld2b { z0.b, z1.b }, p0/z, [x0]", "`ld2b` to `ld4d`"), ("st4d {z0.d, z1.d, z2.d, z3.d}, p0, [x0]", "`ld2b`"),
+           ("ld1w { z0.s }, p0/z, [x0, z1.s, uxtw #2]", "gathers"), ("st1d { z0.d }, p0, [z1.d, #8]", "gathers"), ("ldff1b { z0.b }, p0/z, [x0, xzr]", "`ldff1b`"),
+           ("brkb p0.b, p1/z, p2.b", "`ldff1b`"), ("prfm pldl1keep, [x0]", "`prfm`"), ("prfb pldl1keep, p0, [x0]", "`prfm`"), ("ldaxr w0, [x1]", "`ldaxr`"), ("stlxrb w0, w1, [x2]", "`ldaxr`"),
+           ("ldaprb w0, [x1]", "`ldaxr`"), ("stlur x0, [x1, #8]", "`ldaxr`"), ("ldaxp x0, x1, [x2]", "`ldaxr`"), ("crc32b w0, w1, w2", "`crc32b`"), ("cnt x0, x1", "`crc32b`"), ("umin x0, x1, x2", "`crc32b`"),
+           ("fadd z0.s, z0.s, z1.s", "all of"), ("add v0.4s, v1.4s, v2.4s", "all of"), ("ld1 { v0.16b }, [x0]", "all of"), ("str q0, [x0]", "all of"), ("stur d0, [x0, #-8]", "all of"),
+           ("scvtf d0, x1", "all of"), ("dup v0.16b, w1", "all of"), ("ldg x0, [x1]", None), ("dc cvac, x0", None), ("match p0.b, p0/z, z0.b, z1.b", None))
+
+
+def writing():
+    """Each text has the row of FROM_C.md that is meant for it, and each row that is named is there."""
+    cells = list(refused_script.advice())
+    for text, wanted in WRITTEN:
+        row = refused_script.row_of(text)
+        yield f"the row of {text}", row and row.startswith(wanted) if wanted else row, True if wanted else None
+    for _, row in refused_script.ROWS:
+        yield f"the row {row}", len([cell for cell in cells if cell.startswith(row)]), 1
+    yield "all rows", [cell for cell in cells if not any(cell.startswith(row) for _, row in refused_script.ROWS)], []
+
+
 def collected(part, folder):
     """The checks of a part, with its name; those that need a folder have one of their own."""
-    if part in (reading, showing):
+    if part in (reading, showing, writing):
         return [(f"{part.__name__}: {what}", got, wanted) for what, got, wanted in part()]
     own = folder / part.__name__
     own.mkdir()
@@ -483,7 +613,7 @@ def collected(part, folder):
 
 
 def main():
-    parts = (reading, showing, comparing, refusing, paging, executing, wrapping, releasing, vectoring)
+    parts = (reading, showing, comparing, refusing, paging, executing, wrapping, releasing, vectoring, writing)
     with tempfile.TemporaryDirectory() as name, concurrent.futures.ThreadPoolExecutor() as pool:
         checks = [check for found in pool.map(lambda part: collected(part, pathlib.Path(name)), parts) for check in found]
     failed = [(what, got, wanted) for what, got, wanted in checks if not got == wanted]

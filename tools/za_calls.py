@@ -1,7 +1,10 @@
 #!/usr/bin/env python3
-"""Says of each call that a thread makes with ZA on whether ZA is after its return as before it, or is saved lazily, or is lost.
+"""Says of each call that is made with ZA on whether ZA is after its return as before it, or is saved lazily, or is lost; and which calls leave a save
+that is not restored, or registers, PSTATE.SM or SP otherwise than AAPCS64 has it.
 
-    tools/za_calls.py PROGRAM REPORT [THREAD] [--all] [--shares FUNCTION].. [--most N]
+    tools/za_calls.py PROGRAM REPORT [THREAD] [--all] [--shares FUNCTION].. [--vectors FUNCTION].. [--partial] [--most N]
+
+All threads of the report are looked at, or the one that is named.
 
 A call is a BL or BLR, and its return the next count with the address after it and the same SP. What became of ZA over it:
 
@@ -12,8 +15,11 @@ A call is a BL or BLR, and its return the next count with the address after it a
     shared     the same, of a function that --shares names: it is to change its caller's ZA
     lost       it is off or another, and no buffer has it
 
-A line for each place of calls that has one which is changed or lost, with --all for each place; the status is 1 where there is one. --most N looks at
-the first N calls with ZA on. What abi-check says of the thread stands last. SMEMU may name the emulator.
+A line for each place of calls that has one which is changed or lost, with --all for each place, and below them a line for each place and kind of call
+that leaves something else at fault, with ZA on or off, which call_faults.py finds; the status is 1 where there is one. --vectors names a function that
+follows the vector convention, and so keeps Z8 to Z23 and P4 to P15, or all; --partial allows blocks of fewer slices than ZA has. --most N looks at the
+first N calls of a thread with ZA on. What abi-check says of the thread stands below. Where some call was not looked at, the last line says which,
+and the status is 3, if it is not 1. SMEMU may name the emulator.
 """
 import argparse
 import collections
@@ -29,6 +35,8 @@ import reports
 CALL = re.compile(r"^([0-9a-f]{16}) [0-9a-f]{8} (blr? .*)", re.MULTILINE)
 KINDS = ("kept", "saved", "restored", "shared", "changed", "lost")
 FAULTS = ("changed", "lost")
+# what abi-check says where it had nothing to judge
+NONE_MARKED = "abi yes calls 0 open 0"
 
 
 class Side:
@@ -71,14 +79,14 @@ def in_parts(thread, items, size):
 
 
 def calls_with_za(thread, listing, most):
-    """The calls that are made with ZA on, in order, and whether there are more than as many as are to be looked at."""
+    """The calls that are made with ZA on, in order, as many as are to be looked at; how many calls there are; and the count of the first that is not."""
     found = []
     for address, text in CALL.findall(listing):
         found += [(count, int(address, 16), text) for count in thread.all_hits(int(address, 16))]
     found.sort()
     answers = thread.ask([it for count, _, _ in found for it in (f"goto {count}", "slice b 0 h 0")])[1::2]
     on = [Call(*it) for it, answer in zip(found, answers) if answer != ["off"]]
-    return on[:most], len(found), len(on) > most
+    return on[:most], len(found), on[most].count if len(on) > most else None
 
 
 def find_returns(thread, calls):
@@ -179,51 +187,66 @@ def lines_of(calls, known, show_all):
         yield f"{known.text(address)} calls {to}: " + ", ".join(f"{kind} {counts[kind]}" for kind in (*KINDS, "not returned") if counts[kind]) + span
 
 
-def other_faults(words, thread, listing, known):
-    """The calls that leave something else than ZA otherwise than AAPCS64 has it, or a save that is not restored."""
-    texts = {int(at, 16): text for at, _, text in counted.LISTED.findall(listing)}
-    block = reports.read(words.report).threads[words.thread]
-    follows = lambda address: "all" in words.vectors or known.function(address) in words.vectors
-    found = call_faults.Checker(thread, block, texts, known.function, follows).check()
-    return [it for it in found if it.kind != "few slices" or not words.partial]
-
-
-def abi_check(words):
-    """What abi-check says."""
+def abi_check(words, number):
+    """What abi-check says of a thread."""
     try:
-        return emulator.call([emulator.find(), "abi-check", words.program, words.report, words.thread]).decode().strip()
+        said = emulator.call([emulator.find(), "abi-check", words.program, words.report, number]).decode().strip()
     except emulator.Refused as fault:
         return str(fault)
+    return "no call of this run is marked" if said == NONE_MARKED else said
 
 
-def main():
+def look_at(words, number, listing, known):
+    """Says what became of ZA over the calls of a thread; the answer is whether one is at fault, and the count of the first that was not looked at."""
+    thread = recorded.Recorded(words.program, words.report, number)
+    calls, calls_made, left = calls_with_za(thread, listing, words.most)
+    find_returns(thread, calls)
+    read_returns(thread, calls)
+    judge(calls, thread.rows, lambda address: known.function(address) in words.shares)
+    others = call_faults.Checker(thread, reports.read(words.report).threads[number], counted.texts_of(listing), known.function,
+                                 lambda address: "all" in words.vectors or known.function(address) in words.vectors)
+    faults = [it for it in others.check() if it.kind != "few slices" or not words.partial]
+    for line in (*lines_of(calls, known, words.all), *call_faults.lines_of(faults, known)):
+        print(line)
+    counts = collections.Counter(call.kind for call in calls)
+    texts = [f"{kind} {counts[kind]}" for kind in KINDS] + [f"not returned {counts[None]}"]
+    print(f"calls {calls_made}, with ZA on {len(calls)}" + (" and more" if left is not None else "") + ": " + ", ".join(texts))
+    print(f"abi-check: {abi_check(words, number)}")
+    return bool(faults) or any(counts[kind] for kind in FAULTS), min((it for it in (left, others.left) if it is not None), default=None)
+
+
+def arguments():
     parser = argparse.ArgumentParser(description=__doc__.splitlines()[0])
     parser.add_argument("program", metavar="PROGRAM")
     parser.add_argument("report", metavar="REPORT")
-    parser.add_argument("thread", metavar="THREAD", type=int, nargs="?", default=0)
+    parser.add_argument("thread", metavar="THREAD", type=int, nargs="?", help="this thread alone")
     parser.add_argument("--all", action="store_true", help="a line for each place of calls")
     parser.add_argument("--shares", action="append", default=[], metavar="FUNCTION", help="a function that is to change its caller's ZA")
     parser.add_argument("--vectors", action="append", default=[], metavar="FUNCTION", help="a function that keeps Z8 to Z23 and P4 to P15; all for each")
     parser.add_argument("--partial", action="store_true", help="a block may name fewer slices than ZA has")
     parser.add_argument("--most", type=int, default=10000, metavar="N", help="look at the first N calls with ZA on (10000)")
-    words = parser.parse_args()
-    thread = recorded.Recorded(words.program, words.report, words.thread)
+    return parser, parser.parse_args()
+
+
+def main():
+    parser, words = arguments()
     listing = emulator.call([emulator.find(), "dis", words.program]).decode()
-    calls, number, is_cut = calls_with_za(thread, listing, words.most)
-    find_returns(thread, calls)
-    read_returns(thread, calls)
     known = places.Places(words.program)
-    judge(calls, thread.rows, lambda address: known.function(address) in words.shares)
-    faults = other_faults(words, thread, listing, known)
-    for line in (*lines_of(calls, known, words.all), *call_faults.lines_of(faults, known)):
-        print(line)
-    counts = collections.Counter(call.kind for call in calls)
-    texts = [f"{kind} {counts[kind]}" for kind in KINDS] + [f"not returned {counts[None]}"]
-    print(f"calls {number}, with ZA on {len(calls)}" + (" and more, which were not looked at" if is_cut else "") + ": " + ", ".join(texts))
-    if not listing:
-        print("the program has no section table, so its calls are not known")
-    print(f"abi-check: {abi_check(words)}")
-    return 1 if faults or any(counts[kind] for kind in FAULTS) else 0
+    for option, names in (("--shares", words.shares), ("--vectors", [name for name in words.vectors if name != "all"])):
+        for name in names:
+            if name not in (it for _, it in known.functions):
+                parser.error(f"{option} {name}: the program has no function of that name")
+    threads = [words.thread] if words.thread is not None else recorded.threads_of(words.program, words.report)
+    is_wrong, unseen = False, [] if listing else ["all calls, since the program has no section table"]
+    for number in threads:
+        if len(threads) > 1:
+            print(f"thread {number}")
+        has_fault, left = look_at(words, number, listing, known)
+        is_wrong |= has_fault
+        unseen += [f"the calls of thread {number} from count {left} on (--most {words.most})"] if left is not None else []
+    if unseen:
+        print(f"not looked at: {', '.join(unseen)}")
+    return 1 if is_wrong else emulator.NOT_ALL if unseen else 0
 
 
 if __name__ == "__main__":
