@@ -14,10 +14,10 @@ ADDR2LINES = ["aarch64-linux-gnu-addr2line", "addr2line"]
 
 
 class Places:
-    """The functions and lines of a program."""
+    """The functions and lines of a program. A file is named without its folder, but where `is_whole` says otherwise."""
 
-    def __init__(self, program):
-        self.program = str(program)
+    def __init__(self, program, is_whole=False):
+        self.program, self.is_whole = str(program), is_whole
         self.functions = refused.functions_of(pathlib.Path(program).read_bytes())
         self.lines = {}
 
@@ -37,16 +37,15 @@ class Places:
         said = subprocess.run([*tool, "-e", self.program], input=given, stdout=subprocess.PIPE, stderr=subprocess.DEVNULL, text=True).stdout
         for address, line in zip(new, said.split("\n")):
             # a line that is not known is ??:0 or ??:?, and GNU's may have words after it
-            line = ":".join(line.split(" ")[0].split(":")[:2])
+            line = ":".join(line.split(" (")[0].split(":")[:2])
             if not line.startswith("??") and not line.endswith((":0", ":?")):
                 self.lines[address] = line
 
-    @staticmethod
-    def symbolizer():
+    def symbolizer(self):
         for tool in SYMBOLIZERS:
             if shutil.which(tool):
-                return [tool, "--basenames", "--no-inlines", "--functions=none", "--output-style=GNU"]
-        return next(([tool, "-s"] for tool in ADDR2LINES if shutil.which(tool)), None)
+                return [tool, *["--basenames"] * (not self.is_whole), "--no-inlines", "--functions=none", "--output-style=GNU"]
+        return next(([tool, *["-s"] * (not self.is_whole)] for tool in ADDR2LINES if shutil.which(tool)), None)
 
     def text(self, address):
         """An address with its function and its line, as far as they are known."""

@@ -1,7 +1,8 @@
 #!/usr/bin/env python3
-"""Says of each call that is made with ZA on whether ZA is after its return as before it, or is saved lazily, or is lost.
+"""Says of each call that is made with ZA on whether ZA is after its return as before it, or is saved lazily, or is lost; and which calls leave a save
+that is not restored, or registers, PSTATE.SM or SP otherwise than AAPCS64 has it.
 
-    tools/za_calls.py PROGRAM REPORT [THREAD] [--all] [--shares FUNCTION].. [--most N]
+    tools/za_calls.py PROGRAM REPORT [THREAD] [--all] [--shares FUNCTION].. [--vectors FUNCTION].. [--partial] [--most N]
 
 All threads of the report are looked at, or the one that is named.
 
@@ -14,17 +15,22 @@ A call is a BL or BLR, and its return the next count with the address after it a
     shared     the same, of a function that --shares names: it is to change its caller's ZA
     lost       it is off or another, and no buffer has it
 
-A line for each place of calls that has one which is changed or lost, with --all for each place; the status is 1 where there is one. --most N looks at
-the first N calls of a thread with ZA on. What abi-check says of the thread stands below. Where some call was not looked at, the last line says which,
+A line for each place of calls that has one which is changed or lost, with --all for each place, and below them a line for each place and kind of call
+that leaves something else at fault, with ZA on or off, which call_faults.py finds; the status is 1 where there is one. --vectors names a function that
+follows the vector convention, and so keeps Z8 to Z23 and P4 to P15, or all; --partial allows blocks of fewer slices than ZA has. --most N looks at the
+first N calls of a thread with ZA on. What abi-check says of the thread stands below. Where some call was not looked at, the last line says which,
 and the status is 3, if it is not 1. SMEMU may name the emulator.
 """
 import argparse
 import collections
 import re
 
+import call_faults
+import counted
 import emulator
 import places
 import recorded
+import reports
 
 CALL = re.compile(r"^([0-9a-f]{16}) [0-9a-f]{8} (blr? .*)", re.MULTILINE)
 KINDS = ("kept", "saved", "restored", "shared", "changed", "lost")
@@ -197,13 +203,16 @@ def look_at(words, number, listing, known):
     find_returns(thread, calls)
     read_returns(thread, calls)
     judge(calls, thread.rows, lambda address: known.function(address) in words.shares)
-    for line in lines_of(calls, known, words.all):
+    others = call_faults.Checker(thread, reports.read(words.report).threads[number], counted.texts_of(listing), known.function,
+                                 lambda address: "all" in words.vectors or known.function(address) in words.vectors)
+    faults = [it for it in others.check() if it.kind != "few slices" or not words.partial]
+    for line in (*lines_of(calls, known, words.all), *call_faults.lines_of(faults, known)):
         print(line)
     counts = collections.Counter(call.kind for call in calls)
     texts = [f"{kind} {counts[kind]}" for kind in KINDS] + [f"not returned {counts[None]}"]
     print(f"calls {calls_made}, with ZA on {len(calls)}" + (" and more" if left is not None else "") + ": " + ", ".join(texts))
     print(f"abi-check: {abi_check(words, number)}")
-    return any(counts[kind] for kind in FAULTS), left
+    return bool(faults) or any(counts[kind] for kind in FAULTS), min((it for it in (left, others.left) if it is not None), default=None)
 
 
 def arguments():
@@ -213,6 +222,8 @@ def arguments():
     parser.add_argument("thread", metavar="THREAD", type=int, nargs="?", help="this thread alone")
     parser.add_argument("--all", action="store_true", help="a line for each place of calls")
     parser.add_argument("--shares", action="append", default=[], metavar="FUNCTION", help="a function that is to change its caller's ZA")
+    parser.add_argument("--vectors", action="append", default=[], metavar="FUNCTION", help="a function that keeps Z8 to Z23 and P4 to P15; all for each")
+    parser.add_argument("--partial", action="store_true", help="a block may name fewer slices than ZA has")
     parser.add_argument("--most", type=int, default=10000, metavar="N", help="look at the first N calls with ZA on (10000)")
     return parser, parser.parse_args()
 
@@ -221,9 +232,10 @@ def main():
     parser, words = arguments()
     listing = emulator.call([emulator.find(), "dis", words.program]).decode()
     known = places.Places(words.program)
-    for name in words.shares:
-        if name not in (it for _, it in known.functions):
-            parser.error(f"--shares {name}: the program has no function of that name")
+    for option, names in (("--shares", words.shares), ("--vectors", [name for name in words.vectors if name != "all"])):
+        for name in names:
+            if name not in (it for _, it in known.functions):
+                parser.error(f"{option} {name}: the program has no function of that name")
     threads = [words.thread] if words.thread is not None else recorded.threads_of(words.program, words.report)
     is_wrong, unseen = False, [] if listing else ["all calls, since the program has no section table"]
     for number in threads:
