@@ -3,22 +3,12 @@ use Rattle.std.proofs.Common.{inl, inr, ◌≡◌, ℕ, ◌+◌, ◌*◌, ◌/�
 use Rattle.std.specs.Prelude.{◌==◌, ◌&&◌, ◌||◌, slice_index_or, slice_set}
 use Rattle.std.specs.Int.Bits.{and_zero_r}
 use Rattle.std.proofs.lemmas.List.{get_or-set_same, get_or-set_other}
-use Rattle.std.proofs.lemmas.Bool.{cases_Bool, eqb-true, eq-eqb, both_ways}
+use Rattle.std.proofs.lemmas.Bool.{cases_Bool, eqb-true, eq-eqb, both_ways, and_parts}
 use Rattle.std.proofs.lemmas.Nat.{and_block}
 use Rattle.plain_lemmas.proofs.Numbers.{cases_lt_eq_gt}
+use Rattle.plain_lemmas.proofs.Tests.{or_resolve_left}
 use Rattle.abi_checker.specs.Marks.{is_call_word}
 use Rattle.abi_checker.specs.Slots.{IsTest}
-
--- ---- two at once
-
-pub two : (a b : Bool) → (a && b) ≡ true → (a ≡ true) × (b ≡ true)
-two true true h = (refl, refl)
-two true false h = cc
-two false b h = cc
-
-pub other_of : (a b : Bool) → (a || b) ≡ true → a ≡ false → b ≡ true
-other_of true b h e = cc
-other_of false b h e = h
 
 -- ---- slots
 
@@ -48,8 +38,8 @@ call_bits : (word : ℕ) → is_call_word word ≡ true → bit_and word 0xBC000
 call_bits word h = elim (cases_Bool (word / 2 ^ 26 == 0x25)) [
   | inl bl ↦ bits_of word 0x25 (eqb-true (word / 2 ^ 26) 0x25 bl) refl
   | inr other ↦
-      let blr = two (word / 2 ^ 10 == 0x358FC0) (word % 32 == 0)
-      (other_of (word / 2 ^ 26 == 0x25) ((word / 2 ^ 10 == 0x358FC0) && (word % 32 == 0)) h other) in
+      let blr = and_parts (word / 2 ^ 10 == 0x358FC0) (word % 32 == 0)
+      (or_resolve_left (word / 2 ^ 26 == 0x25) ((word / 2 ^ 10 == 0x358FC0) && (word % 32 == 0)) h other) in
       let top = eqb-true (word / 2 ^ 10) 0x358FC0 blr.0 in
       bits_of word 0x35 (omega (arith, top)) refl
 ]

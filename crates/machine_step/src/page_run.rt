@@ -495,7 +495,7 @@ impl Machine {
         }
     }
 
-    /// Makes any store by a call.
+    /// Makes any store of one or two general registers by a call.
     #[inline(never)]
     fn store_other(&mut self, known: &Decoded) -> Attempt
         requires aligned { self.old.scalars.pc % 4 ≡ 0 }
@@ -513,8 +513,8 @@ impl Machine {
         }
     }
 
-    /// Makes the store of one register of these parts, which the word means. Where it does not lie near it is made by
-    /// a call, so that this saves no register.
+    /// Makes the store of one register of these parts, which the word means. Bytes that do not
+    /// lie near are stored by a call.
     #[inline(always)]
     fn store_by(
         &mut self,

@@ -155,9 +155,9 @@ impl Pages {
         }
     }
 
-    /// Whether some bytes from an address on lie within the page that is hinted at for it, and this has the
-    /// permission of reading, and of writing where `writes`, and then is owned too. Then reading or writing them
-    /// needs neither a search nor a copy. It says only which way is the shorter one: no clause needs it.
+    /// Whether some bytes from an address on lie within the page that is hinted at for it, and this can be
+    /// read, or where `writes` can be written and is owned. Then to read or to write them needs neither a
+    /// search nor a copy. It says only which way is the shorter one: no clause needs it.
     #[inline(always)]
     pub fn is_near(&self, address: u64, count: u64, writes: bool) -> bool
         requires { count ≤ 4096 }

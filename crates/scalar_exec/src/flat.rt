@@ -4,10 +4,9 @@ ghost use Rattle.sm_types.specs.declared.scalars.Scalars.{Scalars};
 ghost use Rattle.sm_types.specs.declared.insn.Insn.{Insn};
 ghost use Rattle.scalar_exec.specs.declared.flat.Flat.{Flat};
 ghost use Rattle.a64_table.specs.Ranges.{IsInRow};
-ghost use Rattle.scalar_exec.specs.Step.{scalar_step, is_scalar, flowed};
+ghost use Rattle.scalar_exec.specs.Step.{is_scalar};
 ghost use Rattle.scalar_exec.specs.Flat.{IsFlatOf, IsFlatInRow, StepsTo, StepsFlat};
 
-use crate::exec::{Flow, exec_scalar};
 use crate::forms::{
     branch_always, branch_by, branch_by_bit, branch_if, branch_to, field_move, halfword_move,
     high_product, logical, logical_shifted, long_product, masked, product, selected, sum_extended,
@@ -17,7 +16,6 @@ use crate::payloads::{
     Base, BitFields, Extended, Factors, Halfword, Immediate, LeftShifted, OffsetAccess, Registers,
     Selection, Shifted,
 };
-use crate::registers::next_address;
 use sm_types::{
     AddSub, Address, BitfieldOp, BranchRegisterOp, Condition, Insn, Logical, MoveOp, PcRelativeOp,
     Scalars, SelectOp, TwoSourceOp,
@@ -159,29 +157,6 @@ pub enum Flat {
     Scalar,
     /// Any other.
     Other,
-}
-
-/// Moves PC as the flow of an instruction says.
-#[inline(always)]
-#[tactic(auto, unfolding(crate::specs::Step::flowed, crate::specs::Registers::past))]
-fn move_pc(s: &mut Scalars, flow: Flow)
-    ensures { s.new ≡ flowed s.old flow }
-{
-    s.pc = match flow {
-        Flow::Next => next_address(s.pc),
-        Flow::Jump(target) => target,
-    };
-}
-
-/// Executes an instruction that reads and writes scalar registers alone, with its fields in their ranges.
-#[inline(always)]
-pub fn exec_next(s: &mut Scalars, insn: &Insn)
-    requires scalar { IsTrue (is_scalar insn.now) }
-    requires ranges { IsInRow insn.now }
-    ensures { s.new ≡ scalar_step insn.now s.old }
-{
-    let flow = exec_scalar(s, insn);
-    move_pc(s, flow);
 }
 
 /// Executes a flat instruction that says all of one of the scalar registers alone, with PC at a distance

@@ -474,7 +474,7 @@ fn flat_access(x: &LoadStore) -> Flat
             address,
         ),
         (LoadStoreOp::Store, AccessSize::Byte, _) => Flat::StoreByteAt(Base { rn, rt }, address),
-        _ => Flat::Other,
+        _ => Flat::Load,
     }
 }
 

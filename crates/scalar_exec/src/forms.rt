@@ -1,5 +1,4 @@
-//! Instructions that are made of constants and a flat one's fields, and executed with PC apart. They are inlined
-//! where what is constant of them leaves little.
+//! Instructions that are made of constants and a flat one's fields, and executed with PC apart.
 ghost use Rattle.std.specs.Prelude.{◌≡◌, ℕ, true, false};
 ghost use Rattle.sm_types.specs.declared.insn.Insn.TheVariants as insn;
 ghost use Rattle.a64_table.specs.Ranges.{IsInRow};

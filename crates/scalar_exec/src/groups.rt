@@ -1,5 +1,5 @@
-//! Instructions with PC apart from the other registers, each group by a call of its own: where one is executed that
-//! has no flat form, one jump and one call lead to it, and the code around stays small.
+//! Instructions of the scalar registers alone that have no flat form, with PC apart from the other registers: but for
+//! branches and addresses relative to PC each group is a call of its own.
 ghost use Rattle.std.specs.Prelude.{IsTrue, ℕ};
 ghost use Rattle.a64_table.specs.Ranges.{IsInRow};
 ghost use Rattle.scalar_exec.specs.Step.{is_scalar};

@@ -24,7 +24,7 @@ mod sums;
 
 pub use branches::{address_at, branch_target};
 pub use exec::{Flow, exec_scalar};
-pub use flat::{Flat, exec_at, exec_next, flat_means};
+pub use flat::{Flat, exec_at, flat_means};
 pub use flat_of::flatten;
 pub use groups::exec_group_at;
 pub use operands::{extend, extend_sign};

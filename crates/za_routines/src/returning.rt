@@ -1,4 +1,4 @@
-//! That there are runs of handlers: one of each handler that returns at once.
+//! That there are runs of handlers: a handler that returns at once is one, where it may be delivered to.
 ghost use Rattle.std.specs.Prelude.{◌≡◌, ℕ, Bool, List};
 ghost use Rattle.sm_types.specs.declared.config.Config.{Config};
 ghost use Rattle.sm_types.specs.declared.shared_op.Event.{Event};

@@ -1,7 +1,8 @@
 use Rattle.std.proofs.Common.{rules, ◌≡◌, ◌<◌, ◌∙◌, sym, ap, length, true}
 use Rattle.std.specs.Prelude.{slice_index_or, slice_set, false}
 use Rattle.abi_checker.specs.Slots.{slot_of}
-use Rattle.abi_checker.proofs.Slots.{slot_here, slot_set, two}
+use Rattle.std.proofs.lemmas.Bool.{and_parts}
+use Rattle.abi_checker.proofs.Slots.{slot_here, slot_set}
 use Rattle.abi_checker.proofs.near.Near.add.Goals as goal
 
 pub returns-clause-here : goal.returns-clause-here
@@ -16,4 +17,4 @@ returns-clause-others c = λ other h.
     let near = c.args.self.now in
     let below : c.slot_of.result < length near.slots = search rules in
     slot_set near.slots c.slot_of.result (slot_of other) below
-    (two near.some (slice_index_or near.slots (slot_of other) false) h).1
+    (and_parts near.some (slice_index_or near.slots (slot_of other) false) h).1
