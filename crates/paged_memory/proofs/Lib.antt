@@ -21,3 +21,4 @@ pub mod Written
 pub mod Permitted
 pub mod Ready
 pub mod Within
+pub mod Near

@@ -8,3 +8,4 @@ pub mod PageTable
 pub mod Accesses
 pub mod Writes
 pub mod PageList
+pub mod Code

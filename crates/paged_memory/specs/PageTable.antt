@@ -1,8 +1,8 @@
 -- The pages of a guest thread as its callers see them: the memory that they make, and which of them are
 -- owned. An owned page is the thread's alone, and a write to it takes no memory. Source: copy on write, as
 -- System V's fork has it.
-use Rattle.std.specs.Prelude.{◌≡◌, ℕ, ◌+◌, ◌/◌, ◌%◌, ◌^◌, ◌<◌, ◌==◌, ◌||◌, ◌&&◌, Bool, cond, not, List}
-use Rattle.std.specs.Prelude.{[], ◌∷◌, refl, IsSome, is_some}
+use Rattle.std.specs.Prelude.{◌≡◌, ℕ, ◌+◌, ◌/◌, ◌%◌, ◌^◌, ◌<◌, ◌==◌, ◌||◌, ◌&&◌, Bool, false, cond, not}
+use Rattle.std.specs.Prelude.{List, [], ◌∷◌, refl, IsSome, is_some}
 use Rattle.std.specs.Prelude.{IsTrue, Option, Some, None, Result, Ok, Err}
 use Rattle.std.specs.List.{list_any}
 use Rattle.std.specs.FinMap.{get}
@@ -47,6 +47,13 @@ AreOwned t address n =
 -- the owned pages stay owned
 abbrev pub KeepsOwned : PageTable → PageTable → Type 0
 KeepsOwned old new = (n : ℕ) → IsOwned old n → IsOwned new n
+
+-- the owned pages are those that were; the bytes of the others, and all permissions, stay
+pub record KeepsShared (old new : PageTable) : Type 0 where
+  pub owned : new.owned ≡ old.owned
+  pub flags : new.memory.perm ≡ old.memory.perm
+  pub bytes : (address : ℕ) → contains old.owned (address / 4096) ≡ false
+      → get new.memory.mem address ≡ get old.memory.mem address
 
 -- the page table after a refusal: as it was where a cause is named; want of memory names none, and more pages
 -- may then be owned

@@ -1,5 +1,5 @@
 -- What a write does to a page table, by its answer. Source: copy on write, as System V's fork has it.
-use Rattle.std.specs.Prelude.{◌≡◌, ℕ, List, Some, None, Result, Ok, Err, length}
+use Rattle.std.specs.Prelude.{◌≡◌, ℕ, Bool, true, false, List, Some, None, Result, Ok, Err, length}
 use Rattle.sm_types.specs.declared.stop.Access.TheVariants.{Write}
 use Rattle.paged_memory.specs.declared.pages.WriteStop.{WriteStop}
 use Rattle.paged_memory.specs.declared.pages.WriteStop.TheVariants as stop
@@ -19,3 +19,10 @@ Writes address bytes old new (Err (stop.Abort abort)) =
 Writes address bytes old new (Err stop.Memory) =
     (new.memory ≡ old.memory) × (first_without 2 old.memory address (length bytes) ≡ None)
     × KeepsOwned old new × (AreOwned old address (length bytes) → ⊥)
+
+-- the same where it is made or all is as it was, and nothing is told of why
+abbrev pub WritesNear : ℕ → List ℕ → PageTable → PageTable → Bool → Type 0
+WritesNear address bytes old new true =
+    (new.memory ≡ record old.memory { mem = set_bytes old.memory.mem address bytes })
+    × (first_without 2 old.memory address (length bytes) ≡ None)
+WritesNear address bytes old new false = new ≡ old

@@ -1,6 +1,25 @@
-//! The words of a page of code that is held.
+//! A page of code that is held, and its words.
 ghost use Rattle.std.specs.Prelude.{◌≡◌, ◌+◌, ◌^◌, ◌≤◌, ℕ, length, Some};
 ghost use Rattle.paged_memory.specs.Memory.{AddressSpace, bytes_with, word_at};
+ghost use Rattle.paged_memory.specs.Code.{code_bytes};
+
+use std::sync::Arc;
+
+/// The 4096 bytes of a page of code, which stay while the pages of a thread change.
+#[derive(Drop)]
+pub struct Code {
+    pub(crate) bytes: Arc<Vec<u8>>,
+}
+
+impl Code {
+    /// The bytes.
+    #[inline(always)]
+    pub fn bytes(&self) -> &[u8]
+        ensures { result.now ≡ code_bytes self.now }
+    {
+        self.bytes.as_slice()
+    }
+}
 
 /// The word at that place of a page, of all of whose bytes this is the slice.
 #[inline(always)]

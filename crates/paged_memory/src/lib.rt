@@ -4,7 +4,8 @@
 //! and `page` are exact on it.
 //! The bytes of a page are shared with the image and with other threads until they are written: the first
 //! write to a page gives it a copy of its own, and `own_pages` counts those copies.
-//! A page is found by a hint, and by binary search where another page stands there.
+//! A page is found by a hint, and by binary search where another page stands there. What lies near, in the page
+//! that is hinted at, is read and written without a search.
 #![tactic(auto)]
 
 mod code;
@@ -16,7 +17,7 @@ mod page_list;
 mod pages;
 mod writes;
 
-pub use code::word_of;
+pub use code::{Code, word_of};
 pub use image::{Image, Part};
 pub use page_list::{PageImage, PageList};
 pub use pages::{Abort, PageView, Pages, WriteStop};

@@ -101,6 +101,34 @@ pub fn run<'a>(
     }
 }
 
+/// The same where the page is the one that is hinted at; `None` tells nothing, and another way is to be taken.
+#[inline(always)]
+pub fn run_near<'a>(
+    pages: &'a [Page],
+    hints: &Hints,
+    address: u64,
+    count: usize,
+    need: u8,
+) -> Option<&'a [u8]>
+    requires fine { IsFine pages.now }
+    requires few { count ≤ 4096 }
+    ensures there { IfSome result (λ bytes. bytes_with need (memory_of pages.now) address count
+        ≡ Some bytes.now) }
+    ensures count { IfSome result (λ bytes. length bytes.now ≡ count) }
+{
+    let number = address / 4096;
+    let start = (address % 4096) as usize;
+    let i = hints.place(number);
+    if start + count > 4096 || i >= pages.len() {
+        return None;
+    }
+    let page = &pages[i];
+    if page.number != number || page.flags & need != need {
+        return None;
+    }
+    Some(&page.bytes.as_slice()[start..start + count])
+}
+
 /// Adds a page at its place.
 pub fn add_page(pages: &mut Vec<Page>, page: Page) -> Result<(), AllocError>
     requires fine { IsFine pages.old.items }

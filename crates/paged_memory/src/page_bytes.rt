@@ -1,6 +1,7 @@
 //! The bytes of a page: those that pages share, or a copy of its own.
 ghost use Rattle.std.specs.Prelude.{◌≡◌, ◌+◌, ◌≤◌, ◌++◌, take, drop, length, true, false, IsTrue, is_ok};
-ghost use Rattle.std.specs.Prelude.{IfOk, OnOk, OnErr};
+ghost use Rattle.std.specs.Prelude.{IfOk, IfSome, OnOk, OnErr};
+ghost use Rattle.std.specs.Arc.{arc_value};
 ghost use Rattle.paged_memory.specs.PageBytes.{own_bytes, shared_bytes};
 
 use std::alloc::{AllocError, Global};
@@ -85,6 +86,18 @@ impl PageBytes {
         match &self.kept {
             Kept::Shared(_) => false,
             Kept::Own(_) => true,
+        }
+    }
+
+    /// The bytes for one who holds them while pages change, where pages may share them. `None` is for bytes of the
+    /// page's own, and where no more may hold them.
+    #[inline(always)]
+    pub fn held(&self) -> Option<Arc<Vec<u8>>>
+        ensures { IfSome result (λ bytes. self.now ≡ shared_bytes (arc_value bytes).items) }
+    {
+        match &self.kept {
+            Kept::Shared(bytes) => Arc::try_clone(bytes).ok(),
+            Kept::Own(_) => None,
         }
     }
 

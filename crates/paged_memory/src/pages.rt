@@ -6,18 +6,21 @@ ghost use Rattle.std.specs.FinMap.{get, entries, len};
 ghost use Rattle.std.specs.FinSet as set;
 ghost use Rattle.paged_memory.specs.Memory.{IsWhole, with_stack, with_zero_pages, no_memory, bytes_from};
 ghost use Rattle.paged_memory.specs.Memory.{byte_with, bytes_with, first_without, run_of, word_at, set_bytes};
-ghost use Rattle.paged_memory.specs.PageTable.{AreOwned, OwnsAlso, Owns, KeepsOwned};
+ghost use Rattle.paged_memory.specs.PageTable.{AreOwned, OwnsAlso, Owns, KeepsOwned, KeepsShared};
 ghost use Rattle.paged_memory.specs.PageTable.{shared_pages, owned_count};
 ghost use Rattle.paged_memory.specs.PageList.{IsPageList, HasPage, image_entry};
 ghost use Rattle.paged_memory.specs.Accesses.{need_of, stopped_at, IsOfWrite};
 ghost use Rattle.paged_memory.specs.Pages.{perm_of, memory_of, IsFine, AreHeld};
+ghost use Rattle.paged_memory.specs.Code.{IsHeld};
+ghost use Rattle.paged_memory.specs.Writes.{WritesNear};
 
+use crate::code::Code;
 use crate::hints::Hints;
 use crate::image::Image;
-use crate::page::{Page, add_page, first_lacking, run};
+use crate::page::{Page, add_page, find, first_lacking, run, run_near};
 use crate::page_bytes::PageBytes;
 use crate::page_list::{PageList, pages_of_list};
-use crate::writes::{own_run, write_bytes};
+use crate::writes::{own_run, write_bytes, write_near};
 use sm_types::{Access, Memory};
 use std::alloc::{AllocError, Global};
 use std::marker::Model;
@@ -155,40 +158,48 @@ impl Pages {
         }
     }
 
-    /// Whether some bytes from an address on lie within the page that is hinted at for it, and this can be
-    /// read, or where `writes` can be written and is owned. Then to read or to write them needs neither a
-    /// search nor a copy. It says only which way is the shorter one: no clause needs it.
+    /// The same where the page is the one that is hinted at for the address; `None` tells nothing, and another way
+    /// is to be taken.
     #[inline(always)]
-    pub fn is_near(&self, address: u64, count: u64, writes: bool) -> bool
+    pub fn bytes_near(&self, address: u64, count: usize) -> Option<&[u8]>
         requires { count ≤ 4096 }
+        ensures there { IfSome result (λ bytes. bytes_with 4 self.now.memory address count ≡ Some bytes.now) }
+        ensures count { IfSome result (λ bytes. length bytes.now ≡ count) }
     {
-        let number = address / 4096;
-        let place = self.hints.place(number);
-        if address % 4096 + count > 4096 || place >= self.pages.len() {
-            return false;
-        }
-        let page = &self.pages[place];
-        if page.number != number {
-            return false;
-        }
-        if writes {
-            page.flags & 2 == 2 && page.bytes.is_own()
-        } else {
-            page.flags & 4 == 4
-        }
+        run_near(self.pages.as_slice(), &self.hints, address, count, 4)
     }
 
-    /// The 4096 bytes of the page of that address, where it can be executed.
+    /// The 4096 bytes of the page of that address; `None` exactly where it cannot be executed.
     #[inline(always)]
     pub fn code(&self, base: u64) -> Option<&[u8]>
         requires { base % 4096 ≡ 0 }
         ensures there { IfSome result (λ bytes. bytes_with 1 self.now.memory base 4096 ≡ Some bytes.now) }
         ensures count { IfSome result (λ bytes. length bytes.now ≡ 4096) }
+        ensures gone { IfNone result (byte_with 1 self.now.memory base ≡ None) }
     {
         run(self.pages.as_slice(), &self.hints, base, 4096, 1)
     }
 
-    /// The same, where the bytes may lie in two pages.
+    /// The bytes of the page of that address, held while the pages change, where it can be executed and is not
+    /// owned. `None` tells nothing.
+    #[inline(always)]
+    pub fn hold_code(&self, base: u64) -> Option<Code>
+        requires { base % 4096 ≡ 0 }
+        ensures { IfSome result (λ code. IsHeld code base self.now) }
+    {
+        let pages = self.pages.as_slice();
+        let i = find(pages, &self.hints, base / 4096)?;
+        let page = &pages[i];
+        if page.flags & 1 != 1 {
+            return None;
+        }
+        match page.bytes.held() {
+            Some(bytes) => Some(Code { bytes }),
+            None => None,
+        }
+    }
+
+    /// The word of four bytes that may lie in two pages.
     #[inline(never)]
     fn fetch_across(&self, pc: u64) -> Option<u32>
         ensures { result ≡ word_at self.now.memory pc }
@@ -260,6 +271,19 @@ impl Pages {
             ≡ owned_count self.old + set.len (shared_pages self.old (run_of address (length bytes.now)))) }
     {
         write_bytes(&mut self.pages, &self.hints, address, bytes)
+    }
+
+    /// Writes bytes that lie within the page that is hinted at for the address, where it may be written and is
+    /// owned, and tells whether it does; no page that is not owned changes. `false` tells nothing, and another way
+    /// is to be taken.
+    #[inline(always)]
+    pub fn write_near(&mut self, address: u64, bytes: &[u8]) -> bool
+        requires some { 0 < length bytes.now }
+        requires few { length bytes.now ≤ 4096 }
+        ensures near { WritesNear address bytes.now self.old self.new result }
+        ensures shared { KeepsShared self.old self.new }
+    {
+        write_near(&mut self.pages, &self.hints, address, bytes)
     }
 
     /// How many pages there are.

@@ -5,9 +5,9 @@ ghost use Rattle.std.specs.FinMap.{get};
 ghost use Rattle.std.specs.FinSet.{contains};
 ghost use Rattle.std.specs.FinSet as set;
 ghost use Rattle.paged_memory.specs.Memory.{run_of, set_bytes};
-ghost use Rattle.paged_memory.specs.PageTable.{AreOwned, IsOwned, OwnsAlso, KeepsOwned};
+ghost use Rattle.paged_memory.specs.PageTable.{AreOwned, IsOwned, OwnsAlso, KeepsOwned, KeepsShared};
 ghost use Rattle.paged_memory.specs.Parts.{AreMapped};
-ghost use Rattle.paged_memory.specs.Writes.{Writes};
+ghost use Rattle.paged_memory.specs.Writes.{Writes, WritesNear};
 ghost use Rattle.paged_memory.specs.Pages.{page_at, mem_of, perm_of, own_numbers, memory_of, table_of};
 ghost use Rattle.paged_memory.specs.Pages.{IsFine};
 
@@ -171,6 +171,30 @@ fn write_within(
         }
         None => Err(stop),
     }
+}
+
+/// Writes bytes that lie within the page that is hinted at, where it may be written and is owned, and tells whether
+/// it does.
+#[inline(always)]
+pub fn write_near(pages: &mut Vec<Page>, hints: &Hints, address: u64, bytes: &[u8]) -> bool
+    requires fine { IsFine pages.old.items }
+    requires some { 0 < length bytes.now }
+    requires few { length bytes.now ≤ 4096 }
+    ensures fine { IsFine pages.new.items }
+    ensures near { WritesNear address bytes.now (table_of pages.old.items) (table_of pages.new.items) result }
+    ensures shared { KeepsShared (table_of pages.old.items) (table_of pages.new.items) }
+{
+    let number = address / 4096;
+    let i = hints.place(number);
+    if (address % 4096) as usize + bytes.len() > 4096 || i >= pages.len() {
+        return false;
+    }
+    let page = &pages[i];
+    if page.number != number || page.flags & 2 != 2 || !page.bytes.is_own() {
+        return false;
+    }
+    set_at(pages, i, address, bytes);
+    true
 }
 
 /// Writes bytes that may lie in several pages.
