@@ -13,15 +13,16 @@ ghost use Rattle.machine_step.specs.Machine.{core_of, AttemptsOn, IsInMode, IsSa
 ghost use Rattle.machine_step.specs.Computed.{AreComputed};
 ghost use Rattle.machine_step.specs.Next.{Follows};
 ghost use Rattle.machine_step.specs.Several.{AreExecuted};
+ghost use Rattle.machine_step.specs.Runs.{RunsOn};
+ghost use Rattle.paged_memory.specs.Code.{IsHeld};
 
 use crate::at_once::Attempt;
 use crate::decoder::{Decoded, Decoder};
 use crate::halts::Halts;
 use crate::machine::Machine;
-use mem_access::{Bank, is_near};
-use paged_memory::{Pages, word_of};
-use scalar_exec::Flat;
-use sm_types::{AccessSize, Address, Insn, LoadStore, LoadStoreOp, Scalars};
+use mem_access::Bank;
+use paged_memory::{Code, Pages, word_of};
+use sm_types::Scalars;
 
 /// What is known of the instruction at PC.
 #[derive(Clone, Copy)]
@@ -137,8 +138,106 @@ impl Machine {
         }
     }
 
-    /// The same with the stores of one and two registers that are made at once: after each the page is looked up
-    /// again, since a store may write to it.
+    /// The same, and stores of one register whose bytes lie near besides: the bytes of the page are held apart from
+    /// the pages, since such a store writes to owned pages alone. Where they cannot be held, what is known of the
+    /// next one stays. A call of its own: the loop over a page is laid into it too.
+    #[inline(never)]
+    fn run_stores<H: Halts>(
+        &mut self,
+        decoder: &Decoder,
+        bank: &mut Bank,
+        halts: &H,
+        apart: bool,
+        most: u32,
+        next: Next,
+    ) -> (u32, Next)
+        requires mode { IsInMode bank.old self.old }
+        requires next { Follows (H.halts halts.now) self.old.pages.memory decoder.now.places.items
+            self.old.scalars next }
+        ensures { RunsOn (H.halts halts.now) apart most decoder.now.places.items self.old bank.old self.new bank.new
+            result }
+    {
+        let base = self.scalars.pc / 4096 * 4096;
+        match self.pages.hold_code(base) {
+            Some(code) => self.run_held(decoder, bank, &code, base, halts, apart, most),
+            None => (0, next),
+        }
+    }
+
+    /// The loop of `act_known`, with the stores.
+    #[inline(always)]
+    fn run_held<H: Halts>(
+        &mut self,
+        decoder: &Decoder,
+        bank: &mut Bank,
+        code: &Code,
+        base: u64,
+        halts: &H,
+        apart: bool,
+        most: u32,
+    ) -> (u32, Next)
+        requires mode { IsInMode bank.old self.old }
+        requires base { base % 4096 ≡ 0 }
+        requires held { IsHeld code.now base self.old.pages }
+        ensures { RunsOn (H.halts halts.now) apart most decoder.now.places.items self.old bank.old self.new bank.new
+            result }
+    {
+        let bytes = code.bytes();
+        let places = decoder.places();
+        let mut left = most;
+        let mut at = self.scalars.pc.wrapping_sub(base);
+        'turns: while left > 0 {
+            if !is_word_place(at) {
+                self.scalars.pc = base.wrapping_add(at);
+                return (most - left, Next::Unknown);
+            }
+            let place = at as usize;
+            let known = &places[place / 4];
+            if known.word() != word_of(bytes, place) {
+                self.scalars.pc = base.wrapping_add(at);
+                return (most - left, Next::Unknown);
+            }
+            if halts.halts(base.wrapping_add(at), known.word()) {
+                self.scalars.pc = base.wrapping_add(at);
+                return (most - left, Next::Halts(known.word()));
+            }
+            match self.act_or_store(known, bank, base, at, apart) {
+                Some(next) => at = next,
+                None => return (most - left, Next::Kept(place / 4)),
+            }
+            left -= 1;
+        }
+        self.scalars.pc = base.wrapping_add(at);
+        (most - left, Next::Unknown)
+    }
+
+    /// The one after the other: the second where the first ends before a store.
+    #[inline(always)]
+    fn run_on<H: Halts>(
+        &mut self,
+        decoder: &Decoder,
+        bank: &mut Bank,
+        halts: &H,
+        apart: bool,
+        most: u32,
+    ) -> (u32, Next)
+        requires { IsInMode bank.old self.old }
+        ensures { RunsOn (H.halts halts.now) apart most decoder.now.places.items self.old bank.old self.new bank.new
+            result }
+    {
+        let (made, next) = self.run_page(decoder, bank, halts, apart, most);
+        let Next::Kept(place) = next else {
+            return (made, next);
+        };
+        if made == most || !decoder.kept(place).is_store() {
+            return (made, next);
+        }
+        let (more, next) = self.run_stores(decoder, bank, halts, apart, most - made, next);
+        (made + more, next)
+    }
+
+    /// The same with the other stores of one and two registers: after each the page is looked up again, since it
+    /// may write to it.
     #[inline(always)]
     pub(crate) fn run_known<H: Halts>(
         &mut self,
@@ -149,424 +248,26 @@ impl Machine {
         most: u32,
     ) -> (u32, Next)
         requires { IsInMode bank.old self.old }
-        ensures executed { AreExecuted (H.halts halts.now) apart (vector_bytes bank.old.vectors.vl) result.0
-            (core_of self.old (bank_state bank.old)) (core_of self.new (bank_state bank.new)) }
-        ensures few { result.0 ≤ most }
-        ensures next { Follows (H.halts halts.now) self.new.pages.memory decoder.now.places.items
-            self.new.scalars result.1 }
-        ensures owned { KeepsOwned self.old.pages self.new.pages }
-        ensures same { IsSameBank bank.old bank.new }
-        ensures mode { IsInMode bank.new self.new }
+        ensures { RunsOn (H.halts halts.now) apart most decoder.now.places.items self.old bank.old self.new bank.new
+            result }
     {
         let mut done = 0;
         'runs: while done < most {
-            let (made, next) = self.run_page(decoder, bank, halts, apart, most - done);
+            let (made, next) = self.run_on(decoder, bank, halts, apart, most - done);
             done += made;
             let Next::Kept(place) = next else {
                 return (done, next);
             };
-            if done == most {
+            let known = decoder.kept(place);
+            if done == most || !known.is_store() {
                 return (done, next);
             }
-            match self.store_known(decoder.kept(place)) {
+            match self.store_known(known) {
                 Attempt::Done => done += 1,
                 Attempt::Waits => return (done, next),
                 Attempt::Memory => return (done, Next::Unknown),
             }
         }
         (done, Next::Unknown)
-    }
-
-    /// Makes the access of the instruction at PC at once, if it is a store of one or two registers; it is the kept
-    /// one.
-    #[inline(always)]
-    fn store_known(&mut self, known: &Decoded) -> Attempt
-        requires aligned { self.old.scalars.pc % 4 ≡ 0 }
-        requires fetched { word_at self.old.pages.memory self.old.scalars.pc ≡ Some known.now.word }
-        ensures effect { (bank : Bank) → AttemptsOn effect_of self.old bank self.new bank result }
-        ensures kept { result ≡ Attempt.Done → (apart : Bool) (bank : VectorState)
-            → (apart && needs_bank (core_of self.old bank)) ≡ false }
-        ensures owned { KeepsOwned self.old.pages self.new.pages }
-        ensures mode { KeepsMode self.old self.new }
-    {
-        match known.flat() {
-            Flat::StoreDoubleword(_) => self.store_doubleword(known),
-            Flat::StoreDoublewordAt(_, _) => self.store_doubleword_at(known),
-            Flat::StoreWord(_) => self.store_word(known),
-            Flat::StoreWordAt(_, _) => self.store_word_at(known),
-            Flat::StoreHalfword(_) => self.store_halfword(known),
-            Flat::StoreHalfwordAt(_, _) => self.store_halfword_at(known),
-            Flat::StoreByte(_) => self.store_byte(known),
-            Flat::StoreByteAt(_, _) => self.store_byte_at(known),
-            Flat::Store => self.store_other(known),
-            _ => Attempt::Waits,
-        }
-    }
-
-    /// Makes the store of a doubleword at an offset, by a call in which that is constant.
-    #[inline(never)]
-    fn store_doubleword(&mut self, known: &Decoded) -> Attempt
-        requires aligned { self.old.scalars.pc % 4 ≡ 0 }
-        requires fetched { word_at self.old.pages.memory self.old.scalars.pc ≡ Some known.now.word }
-        ensures effect { (bank : Bank) → AttemptsOn effect_of self.old bank self.new bank result }
-        ensures kept { result ≡ Attempt.Done → (apart : Bool) (bank : VectorState)
-            → (apart && needs_bank (core_of self.old bank)) ≡ false }
-        ensures owned { KeepsOwned self.old.pages self.new.pages }
-        ensures mode { KeepsMode self.old self.new }
-    {
-        match known.flat() {
-            Flat::StoreDoubleword(x) => {
-                let address = Address::Offset { imm: x.imm };
-                self.store_by(known, AccessSize::Doubleword, address, x.rn, x.rt)
-            }
-            _ => Attempt::Waits,
-        }
-    }
-
-    /// The same at another address, of each kind apart.
-    #[inline(never)]
-    fn store_doubleword_at(&mut self, known: &Decoded) -> Attempt
-        requires aligned { self.old.scalars.pc % 4 ≡ 0 }
-        requires fetched { word_at self.old.pages.memory self.old.scalars.pc ≡ Some known.now.word }
-        ensures effect { (bank : Bank) → AttemptsOn effect_of self.old bank self.new bank result }
-        ensures kept { result ≡ Attempt.Done → (apart : Bool) (bank : VectorState)
-            → (apart && needs_bank (core_of self.old bank)) ≡ false }
-        ensures owned { KeepsOwned self.old.pages self.new.pages }
-        ensures mode { KeepsMode self.old self.new }
-    {
-        match known.flat() {
-            Flat::StoreDoublewordAt(x, address) => match address {
-                Address::Offset { imm } => self.store_by(
-                    known,
-                    AccessSize::Doubleword,
-                    Address::Offset { imm },
-                    x.rn,
-                    x.rt,
-                ),
-                Address::Unscaled { offset } => self.store_by(
-                    known,
-                    AccessSize::Doubleword,
-                    Address::Unscaled { offset },
-                    x.rn,
-                    x.rt,
-                ),
-                Address::PostIndex { offset } => self.store_by(
-                    known,
-                    AccessSize::Doubleword,
-                    Address::PostIndex { offset },
-                    x.rn,
-                    x.rt,
-                ),
-                Address::PreIndex { offset } => self.store_by(
-                    known,
-                    AccessSize::Doubleword,
-                    Address::PreIndex { offset },
-                    x.rn,
-                    x.rt,
-                ),
-                Address::Register { rm, extend, scaled } => self.store_by(
-                    known,
-                    AccessSize::Doubleword,
-                    Address::Register { rm, extend, scaled },
-                    x.rn,
-                    x.rt,
-                ),
-            },
-            _ => Attempt::Waits,
-        }
-    }
-
-    /// Makes the store of a word at an offset, by a call in which that is constant.
-    #[inline(never)]
-    fn store_word(&mut self, known: &Decoded) -> Attempt
-        requires aligned { self.old.scalars.pc % 4 ≡ 0 }
-        requires fetched { word_at self.old.pages.memory self.old.scalars.pc ≡ Some known.now.word }
-        ensures effect { (bank : Bank) → AttemptsOn effect_of self.old bank self.new bank result }
-        ensures kept { result ≡ Attempt.Done → (apart : Bool) (bank : VectorState)
-            → (apart && needs_bank (core_of self.old bank)) ≡ false }
-        ensures owned { KeepsOwned self.old.pages self.new.pages }
-        ensures mode { KeepsMode self.old self.new }
-    {
-        match known.flat() {
-            Flat::StoreWord(x) => {
-                let address = Address::Offset { imm: x.imm };
-                self.store_by(known, AccessSize::Word, address, x.rn, x.rt)
-            }
-            _ => Attempt::Waits,
-        }
-    }
-
-    /// The same at another address, of each kind apart.
-    #[inline(never)]
-    fn store_word_at(&mut self, known: &Decoded) -> Attempt
-        requires aligned { self.old.scalars.pc % 4 ≡ 0 }
-        requires fetched { word_at self.old.pages.memory self.old.scalars.pc ≡ Some known.now.word }
-        ensures effect { (bank : Bank) → AttemptsOn effect_of self.old bank self.new bank result }
-        ensures kept { result ≡ Attempt.Done → (apart : Bool) (bank : VectorState)
-            → (apart && needs_bank (core_of self.old bank)) ≡ false }
-        ensures owned { KeepsOwned self.old.pages self.new.pages }
-        ensures mode { KeepsMode self.old self.new }
-    {
-        match known.flat() {
-            Flat::StoreWordAt(x, address) => match address {
-                Address::Offset { imm } => self.store_by(
-                    known,
-                    AccessSize::Word,
-                    Address::Offset { imm },
-                    x.rn,
-                    x.rt,
-                ),
-                Address::Unscaled { offset } => self.store_by(
-                    known,
-                    AccessSize::Word,
-                    Address::Unscaled { offset },
-                    x.rn,
-                    x.rt,
-                ),
-                Address::PostIndex { offset } => self.store_by(
-                    known,
-                    AccessSize::Word,
-                    Address::PostIndex { offset },
-                    x.rn,
-                    x.rt,
-                ),
-                Address::PreIndex { offset } => self.store_by(
-                    known,
-                    AccessSize::Word,
-                    Address::PreIndex { offset },
-                    x.rn,
-                    x.rt,
-                ),
-                Address::Register { rm, extend, scaled } => self.store_by(
-                    known,
-                    AccessSize::Word,
-                    Address::Register { rm, extend, scaled },
-                    x.rn,
-                    x.rt,
-                ),
-            },
-            _ => Attempt::Waits,
-        }
-    }
-
-    /// Makes the store of a halfword at an offset, by a call in which that is constant.
-    #[inline(never)]
-    fn store_halfword(&mut self, known: &Decoded) -> Attempt
-        requires aligned { self.old.scalars.pc % 4 ≡ 0 }
-        requires fetched { word_at self.old.pages.memory self.old.scalars.pc ≡ Some known.now.word }
-        ensures effect { (bank : Bank) → AttemptsOn effect_of self.old bank self.new bank result }
-        ensures kept { result ≡ Attempt.Done → (apart : Bool) (bank : VectorState)
-            → (apart && needs_bank (core_of self.old bank)) ≡ false }
-        ensures owned { KeepsOwned self.old.pages self.new.pages }
-        ensures mode { KeepsMode self.old self.new }
-    {
-        match known.flat() {
-            Flat::StoreHalfword(x) => {
-                let address = Address::Offset { imm: x.imm };
-                self.store_by(known, AccessSize::Halfword, address, x.rn, x.rt)
-            }
-            _ => Attempt::Waits,
-        }
-    }
-
-    /// The same at another address, of each kind apart.
-    #[inline(never)]
-    fn store_halfword_at(&mut self, known: &Decoded) -> Attempt
-        requires aligned { self.old.scalars.pc % 4 ≡ 0 }
-        requires fetched { word_at self.old.pages.memory self.old.scalars.pc ≡ Some known.now.word }
-        ensures effect { (bank : Bank) → AttemptsOn effect_of self.old bank self.new bank result }
-        ensures kept { result ≡ Attempt.Done → (apart : Bool) (bank : VectorState)
-            → (apart && needs_bank (core_of self.old bank)) ≡ false }
-        ensures owned { KeepsOwned self.old.pages self.new.pages }
-        ensures mode { KeepsMode self.old self.new }
-    {
-        match known.flat() {
-            Flat::StoreHalfwordAt(x, address) => match address {
-                Address::Offset { imm } => self.store_by(
-                    known,
-                    AccessSize::Halfword,
-                    Address::Offset { imm },
-                    x.rn,
-                    x.rt,
-                ),
-                Address::Unscaled { offset } => self.store_by(
-                    known,
-                    AccessSize::Halfword,
-                    Address::Unscaled { offset },
-                    x.rn,
-                    x.rt,
-                ),
-                Address::PostIndex { offset } => self.store_by(
-                    known,
-                    AccessSize::Halfword,
-                    Address::PostIndex { offset },
-                    x.rn,
-                    x.rt,
-                ),
-                Address::PreIndex { offset } => self.store_by(
-                    known,
-                    AccessSize::Halfword,
-                    Address::PreIndex { offset },
-                    x.rn,
-                    x.rt,
-                ),
-                Address::Register { rm, extend, scaled } => self.store_by(
-                    known,
-                    AccessSize::Halfword,
-                    Address::Register { rm, extend, scaled },
-                    x.rn,
-                    x.rt,
-                ),
-            },
-            _ => Attempt::Waits,
-        }
-    }
-
-    /// Makes the store of a byte at an offset, by a call in which that is constant.
-    #[inline(never)]
-    fn store_byte(&mut self, known: &Decoded) -> Attempt
-        requires aligned { self.old.scalars.pc % 4 ≡ 0 }
-        requires fetched { word_at self.old.pages.memory self.old.scalars.pc ≡ Some known.now.word }
-        ensures effect { (bank : Bank) → AttemptsOn effect_of self.old bank self.new bank result }
-        ensures kept { result ≡ Attempt.Done → (apart : Bool) (bank : VectorState)
-            → (apart && needs_bank (core_of self.old bank)) ≡ false }
-        ensures owned { KeepsOwned self.old.pages self.new.pages }
-        ensures mode { KeepsMode self.old self.new }
-    {
-        match known.flat() {
-            Flat::StoreByte(x) => {
-                let address = Address::Offset { imm: x.imm };
-                self.store_by(known, AccessSize::Byte, address, x.rn, x.rt)
-            }
-            _ => Attempt::Waits,
-        }
-    }
-
-    /// The same at another address, of each kind apart.
-    #[inline(never)]
-    fn store_byte_at(&mut self, known: &Decoded) -> Attempt
-        requires aligned { self.old.scalars.pc % 4 ≡ 0 }
-        requires fetched { word_at self.old.pages.memory self.old.scalars.pc ≡ Some known.now.word }
-        ensures effect { (bank : Bank) → AttemptsOn effect_of self.old bank self.new bank result }
-        ensures kept { result ≡ Attempt.Done → (apart : Bool) (bank : VectorState)
-            → (apart && needs_bank (core_of self.old bank)) ≡ false }
-        ensures owned { KeepsOwned self.old.pages self.new.pages }
-        ensures mode { KeepsMode self.old self.new }
-    {
-        match known.flat() {
-            Flat::StoreByteAt(x, address) => match address {
-                Address::Offset { imm } => self.store_by(
-                    known,
-                    AccessSize::Byte,
-                    Address::Offset { imm },
-                    x.rn,
-                    x.rt,
-                ),
-                Address::Unscaled { offset } => self.store_by(
-                    known,
-                    AccessSize::Byte,
-                    Address::Unscaled { offset },
-                    x.rn,
-                    x.rt,
-                ),
-                Address::PostIndex { offset } => self.store_by(
-                    known,
-                    AccessSize::Byte,
-                    Address::PostIndex { offset },
-                    x.rn,
-                    x.rt,
-                ),
-                Address::PreIndex { offset } => self.store_by(
-                    known,
-                    AccessSize::Byte,
-                    Address::PreIndex { offset },
-                    x.rn,
-                    x.rt,
-                ),
-                Address::Register { rm, extend, scaled } => self.store_by(
-                    known,
-                    AccessSize::Byte,
-                    Address::Register { rm, extend, scaled },
-                    x.rn,
-                    x.rt,
-                ),
-            },
-            _ => Attempt::Waits,
-        }
-    }
-
-    /// Makes any store of one or two general registers by a call.
-    #[inline(never)]
-    fn store_other(&mut self, known: &Decoded) -> Attempt
-        requires aligned { self.old.scalars.pc % 4 ≡ 0 }
-        requires fetched { word_at self.old.pages.memory self.old.scalars.pc ≡ Some known.now.word }
-        ensures effect { (bank : Bank) → AttemptsOn effect_of self.old bank self.new bank result }
-        ensures kept { result ≡ Attempt.Done → (apart : Bool) (bank : VectorState)
-            → (apart && needs_bank (core_of self.old bank)) ≡ false }
-        ensures owned { KeepsOwned self.old.pages self.new.pages }
-        ensures mode { KeepsMode self.old self.new }
-    {
-        match known.insn() {
-            Insn::LoadStore(_) => self.access_known(known.word(), known.insn()),
-            Insn::LoadStorePair(_) => self.access_known(known.word(), known.insn()),
-            _ => Attempt::Waits,
-        }
-    }
-
-    /// Makes the store of one register of these parts, which the word means. Bytes that do not
-    /// lie near are stored by a call.
-    #[inline(always)]
-    fn store_by(
-        &mut self,
-        known: &Decoded,
-        size: AccessSize,
-        address: Address,
-        rn: u8,
-        rt: u8,
-    ) -> Attempt
-        requires means { instruction_of known.now.word ≡ Some (Insn.LoadStore (record {
-          op = LoadStoreOp.Store;
-          size = size;
-          address = address;
-          rn = rn;
-          rt = rt;
-        })) }
-        requires aligned { self.old.scalars.pc % 4 ≡ 0 }
-        requires fetched { word_at self.old.pages.memory self.old.scalars.pc ≡ Some known.now.word }
-        ensures effect { (bank : Bank) → AttemptsOn effect_of self.old bank self.new bank result }
-        ensures kept { result ≡ Attempt.Done → (apart : Bool) (bank : VectorState)
-            → (apart && needs_bank (core_of self.old bank)) ≡ false }
-        ensures owned { KeepsOwned self.old.pages self.new.pages }
-        ensures mode { KeepsMode self.old self.new }
-    {
-        let word = known.word();
-        let x = LoadStore {
-            op: LoadStoreOp::Store,
-            size,
-            address,
-            rn,
-            rt,
-        };
-        if is_near(&x, &self.scalars, &self.pages) {
-            self.access_known(word, &Insn::LoadStore(x))
-        } else {
-            self.store_other(known)
-        }
-    }
-
-    /// Makes the access of a load or a store at once, which the word at PC means.
-    #[inline(always)]
-    fn access_known(&mut self, word: u32, insn: &Insn) -> Attempt
-        requires access { IsTrue (is_access insn.now) }
-        requires means { instruction_of word ≡ Some insn.now }
-        requires aligned { self.old.scalars.pc % 4 ≡ 0 }
-        requires fetched { word_at self.old.pages.memory self.old.scalars.pc ≡ Some word }
-        ensures effect { (bank : Bank) → AttemptsOn effect_of self.old bank self.new bank result }
-        ensures kept { (apart : Bool) (bank : VectorState)
-            → (apart && needs_bank (core_of self.old bank)) ≡ false }
-        ensures owned { KeepsOwned self.old.pages self.new.pages }
-        ensures mode { KeepsMode self.old self.new }
-    {
-        self.access_at_once(insn)
     }
 }

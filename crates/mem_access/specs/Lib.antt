@@ -7,3 +7,4 @@ pub mod Values
 pub mod Transfer
 pub mod SharedAccess
 pub mod Runs
+pub mod Near

@@ -8,6 +8,7 @@ mod atomic;
 mod bank;
 mod checks;
 mod exchange;
+mod near;
 mod numbers;
 mod pairs;
 mod shared_access;
@@ -17,7 +18,8 @@ mod values;
 
 pub use bank::Bank;
 pub use checks::first_shared;
+pub use near::{load_near, store_near};
 pub use numbers::{read_number, write_bytes};
 pub use shared_access::{touched_fault, touched_is_shared, touches, write_answer};
 pub use stop::AccessStop;
-pub use transfers::{is_near, load_beside, load_one, load_pair, transfer};
+pub use transfers::{load_beside, load_one, load_pair, transfer};

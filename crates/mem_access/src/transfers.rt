@@ -217,15 +217,6 @@ fn transfer_pair(x: &LoadStorePair, s: &mut Scalars, pages: &mut Pages) -> Resul
     }
 }
 
-/// Whether the bytes that a load or store of one register accesses lie near, as `Pages::is_near` says.
-#[inline(always)]
-pub fn is_near(x: &LoadStore, s: &Scalars, pages: &Pages) -> bool
-    requires { IsLoadStore x.now }
-{
-    let access = load_store_access(x, s);
-    pages.is_near(access.address, access.size, access.writes)
-}
-
 /// A load of two registers, which changes no page and needs no memory.
 #[inline(always)]
 pub fn load_pair(x: &LoadStorePair, s: &mut Scalars, pages: &Pages) -> Result<(), AccessStop>

@@ -1,0 +1,241 @@
+//! Stores of one and two registers that are kept.
+ghost use Rattle.std.specs.Prelude.{◌≡◌, ◌&&◌, ◌%◌, ◌+◌, ◌^◌, Bool, IsTrue, Some, false};
+ghost use Rattle.a64_encode.specs.Either.{instruction_of};
+ghost use Rattle.scalar_exec.specs.Forms.{access_of, offset_access};
+ghost use Rattle.mem_access.specs.Transfer.{is_access};
+ghost use Rattle.paged_memory.specs.Memory.{word_at};
+ghost use Rattle.paged_memory.specs.PageTable.{KeepsOwned, KeepsShared};
+ghost use Rattle.machine_step.specs.ProcessorState.{VectorState};
+ghost use Rattle.machine_step.specs.Effect.{effect_of};
+ghost use Rattle.machine_step.specs.Needs.{needs_bank};
+ghost use Rattle.machine_step.specs.Machine.{core_of, AttemptsOn, IsInMode, IsSameBank, KeepsMode};
+ghost use Rattle.machine_step.specs.Runs.{Stores, MovesTo};
+
+use crate::at_once::Attempt;
+use crate::decoder::{Decoded, past};
+use crate::machine::Machine;
+use mem_access::{Bank, store_near, touched_is_shared};
+use scalar_exec::{Base, Flat, OffsetAccess};
+use sm_types::{AccessSize, Address, Insn, LoadStore, LoadStoreOp};
+
+impl Machine {
+    /// Executes the kept instruction, PC being at a distance from an address, where it reads and writes registers
+    /// alone, is a load that no check refuses, or is a store of one register whose bytes lie near, and gives the
+    /// distance of the next one, with PC as it may be; where it does not, PC is that of the instruction.
+    #[inline(always)]
+    pub(crate) fn act_or_store(
+        &mut self,
+        known: &Decoded,
+        bank: &mut Bank,
+        base: u64,
+        at: u64,
+        apart: bool,
+    ) -> Option<u64>
+        requires aligned { (base + at) % 2 ^ 64 % 4 ≡ 0 }
+        requires fetched { word_at self.old.pages.memory ((base + at) % 2 ^ 64) ≡ Some known.now.word }
+        requires mode { IsInMode bank.old self.old }
+        ensures made { MovesTo apart base at self.old bank.old result self.new bank.new }
+        ensures shared { KeepsShared self.old.pages self.new.pages }
+        ensures same { IsSameBank bank.old bank.new }
+        ensures mode { IsInMode bank.new self.new }
+    {
+        if let Some(next) = known.compute_at(&mut self.scalars, base, at) {
+            return Some(next);
+        }
+        match known.flat() {
+            Flat::StoreDoubleword(_) | Flat::StoreDoublewordAt(_, _) => {
+                self.scalars.pc = base.wrapping_add(at);
+                past(self.store_doubleword(known), &self.scalars, base)
+            }
+            Flat::StoreWord(_) | Flat::StoreWordAt(_, _) => {
+                self.scalars.pc = base.wrapping_add(at);
+                past(self.store_word(known), &self.scalars, base)
+            }
+            Flat::StoreHalfword(_) | Flat::StoreHalfwordAt(_, _) => {
+                self.scalars.pc = base.wrapping_add(at);
+                past(self.store_halfword(known), &self.scalars, base)
+            }
+            Flat::StoreByte(_) | Flat::StoreByteAt(_, _) => {
+                self.scalars.pc = base.wrapping_add(at);
+                past(self.store_byte(known), &self.scalars, base)
+            }
+            _ => known.act_beside(&mut self.scalars, bank, &self.pages, base, at, apart),
+        }
+    }
+
+    /// Makes the store of one register of these parts, which the word means, where its bytes lie near, and tells
+    /// whether it does.
+    #[inline(always)]
+    fn store_by(
+        &mut self,
+        known: &Decoded,
+        size: AccessSize,
+        address: Address,
+        rn: u8,
+        rt: u8,
+    ) -> bool
+        requires means { instruction_of known.now.word ≡ Some (Insn.LoadStore (record {
+          op = LoadStoreOp.Store;
+          size = size;
+          address = address;
+          rn = rn;
+          rt = rt;
+        })) }
+        requires aligned { self.old.scalars.pc % 4 ≡ 0 }
+        requires fetched { word_at self.old.pages.memory self.old.scalars.pc ≡ Some known.now.word }
+        ensures { Stores self.old self.new result }
+    {
+        touched_is_shared();
+        let x = LoadStore {
+            op: LoadStoreOp::Store,
+            size,
+            address,
+            rn,
+            rt,
+        };
+        if store_near(&x, &mut self.scalars, &mut self.pages) {
+            self.step_past();
+            true
+        } else {
+            false
+        }
+    }
+
+    /// The same at an offset.
+    #[inline(always)]
+    fn store_offset(&mut self, known: &Decoded, size: AccessSize, x: OffsetAccess) -> bool
+        requires means { instruction_of known.now.word ≡ Some (offset_access LoadStoreOp.Store size x) }
+        requires aligned { self.old.scalars.pc % 4 ≡ 0 }
+        requires fetched { word_at self.old.pages.memory self.old.scalars.pc ≡ Some known.now.word }
+        ensures { Stores self.old self.new result }
+    {
+        let address = Address::Offset { imm: x.imm };
+        self.store_by(known, size, address, x.rn, x.rt)
+    }
+
+    /// The same at another address, by a way for each kind of them.
+    #[inline(always)]
+    fn store_elsewhere(&mut self, known: &Decoded, size: AccessSize, x: Base, address: Address) -> bool
+        requires means { instruction_of known.now.word ≡ Some (access_of LoadStoreOp.Store size x address) }
+        requires aligned { self.old.scalars.pc % 4 ≡ 0 }
+        requires fetched { word_at self.old.pages.memory self.old.scalars.pc ≡ Some known.now.word }
+        ensures { Stores self.old self.new result }
+    {
+        match address {
+            Address::Offset { imm } => {
+                self.store_by(known, size, Address::Offset { imm }, x.rn, x.rt)
+            }
+            Address::Unscaled { offset } => {
+                self.store_by(known, size, Address::Unscaled { offset }, x.rn, x.rt)
+            }
+            Address::PostIndex { offset } => {
+                self.store_by(known, size, Address::PostIndex { offset }, x.rn, x.rt)
+            }
+            Address::PreIndex { offset } => {
+                self.store_by(known, size, Address::PreIndex { offset }, x.rn, x.rt)
+            }
+            Address::Register { rm, extend, scaled } => {
+                let address = Address::Register { rm, extend, scaled };
+                self.store_by(known, size, address, x.rn, x.rt)
+            }
+        }
+    }
+
+    /// Makes the store of a doubleword by a call in which its size is constant, where its bytes lie near, and tells whether
+    /// it does.
+    #[inline(never)]
+    fn store_doubleword(&mut self, known: &Decoded) -> bool
+        requires aligned { self.old.scalars.pc % 4 ≡ 0 }
+        requires fetched { word_at self.old.pages.memory self.old.scalars.pc ≡ Some known.now.word }
+        ensures { Stores self.old self.new result }
+    {
+        let size = AccessSize::Doubleword;
+        match known.flat() {
+            Flat::StoreDoubleword(x) => self.store_offset(known, size, x),
+            Flat::StoreDoublewordAt(x, address) => self.store_elsewhere(known, size, x, address),
+            _ => false,
+        }
+    }
+
+    /// Makes the store of a word by a call in which its size is constant, where its bytes lie near, and tells whether
+    /// it does.
+    #[inline(never)]
+    fn store_word(&mut self, known: &Decoded) -> bool
+        requires aligned { self.old.scalars.pc % 4 ≡ 0 }
+        requires fetched { word_at self.old.pages.memory self.old.scalars.pc ≡ Some known.now.word }
+        ensures { Stores self.old self.new result }
+    {
+        let size = AccessSize::Word;
+        match known.flat() {
+            Flat::StoreWord(x) => self.store_offset(known, size, x),
+            Flat::StoreWordAt(x, address) => self.store_elsewhere(known, size, x, address),
+            _ => false,
+        }
+    }
+
+    /// Makes the store of a halfword by a call in which its size is constant, where its bytes lie near, and tells whether
+    /// it does.
+    #[inline(never)]
+    fn store_halfword(&mut self, known: &Decoded) -> bool
+        requires aligned { self.old.scalars.pc % 4 ≡ 0 }
+        requires fetched { word_at self.old.pages.memory self.old.scalars.pc ≡ Some known.now.word }
+        ensures { Stores self.old self.new result }
+    {
+        let size = AccessSize::Halfword;
+        match known.flat() {
+            Flat::StoreHalfword(x) => self.store_offset(known, size, x),
+            Flat::StoreHalfwordAt(x, address) => self.store_elsewhere(known, size, x, address),
+            _ => false,
+        }
+    }
+
+    /// Makes the store of a byte by a call in which its size is constant, where its bytes lie near, and tells whether
+    /// it does.
+    #[inline(never)]
+    fn store_byte(&mut self, known: &Decoded) -> bool
+        requires aligned { self.old.scalars.pc % 4 ≡ 0 }
+        requires fetched { word_at self.old.pages.memory self.old.scalars.pc ≡ Some known.now.word }
+        ensures { Stores self.old self.new result }
+    {
+        let size = AccessSize::Byte;
+        match known.flat() {
+            Flat::StoreByte(x) => self.store_offset(known, size, x),
+            Flat::StoreByteAt(x, address) => self.store_elsewhere(known, size, x, address),
+            _ => false,
+        }
+    }
+
+    /// Makes a store of one or two registers at once, wherever its bytes lie.
+    #[inline(never)]
+    pub(crate) fn store_known(&mut self, known: &Decoded) -> Attempt
+        requires aligned { self.old.scalars.pc % 4 ≡ 0 }
+        requires fetched { word_at self.old.pages.memory self.old.scalars.pc ≡ Some known.now.word }
+        ensures effect { (bank : Bank) → AttemptsOn effect_of self.old bank self.new bank result }
+        ensures kept { result ≡ Attempt.Done → (apart : Bool) (bank : VectorState)
+            → (apart && needs_bank (core_of self.old bank)) ≡ false }
+        ensures owned { KeepsOwned self.old.pages self.new.pages }
+        ensures mode { KeepsMode self.old self.new }
+    {
+        match known.insn() {
+            Insn::LoadStore(_) => self.access_known(known.word(), known.insn()),
+            Insn::LoadStorePair(_) => self.access_known(known.word(), known.insn()),
+            _ => Attempt::Waits,
+        }
+    }
+
+    /// Makes the access of a load or a store at once, which the word at PC means.
+    #[inline(always)]
+    fn access_known(&mut self, word: u32, insn: &Insn) -> Attempt
+        requires access { IsTrue (is_access insn.now) }
+        requires means { instruction_of word ≡ Some insn.now }
+        requires aligned { self.old.scalars.pc % 4 ≡ 0 }
+        requires fetched { word_at self.old.pages.memory self.old.scalars.pc ≡ Some word }
+        ensures effect { (bank : Bank) → AttemptsOn effect_of self.old bank self.new bank result }
+        ensures kept { (apart : Bool) (bank : VectorState)
+            → (apart && needs_bank (core_of self.old bank)) ≡ false }
+        ensures owned { KeepsOwned self.old.pages self.new.pages }
+        ensures mode { KeepsMode self.old self.new }
+    {
+        self.access_at_once(insn)
+    }
+}
