@@ -9,3 +9,4 @@ pub mod Lists
 pub mod Touched
 pub mod Owned
 pub mod ReadBack
+pub mod MadeNear

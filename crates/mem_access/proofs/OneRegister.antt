@@ -16,3 +16,15 @@ a_load Store h = absurd (h refl)
 a_load Load h = refl
 a_load LoadSignedTo64 h = refl
 a_load LoadSignedTo32 h = refl
+
+pub loads_only : (op : LoadStoreOp) → IsTrue (is_load op) → is_store op ≡ false
+loads_only Store h = cc
+loads_only Load h = refl
+loads_only LoadSignedTo64 h = refl
+loads_only LoadSignedTo32 h = refl
+
+pub stores_only : (op : LoadStoreOp) → IsTrue (is_store op) → op ≡ Store
+stores_only Store h = refl
+stores_only Load h = cc
+stores_only LoadSignedTo64 h = cc
+stores_only LoadSignedTo32 h = cc

@@ -1,5 +1,5 @@
 //! Loads and stores of one register whose bytes lie near: within the page that is hinted at for them.
-ghost use Rattle.std.specs.Prelude.{◌≡◌, ◌*◌, ◌^◌, ◌<◌, IfSome, IsTrue, None};
+ghost use Rattle.std.specs.Prelude.{◌≡◌, IfSome, IsTrue, None, false};
 ghost use Rattle.a64_table.specs.Ranges.{IsLoadStore};
 ghost use Rattle.sm_types.specs.declared.insn.Insn.TheVariants as insn;
 ghost use Rattle.paged_memory.specs.PageTable.{KeepsShared};

@@ -1,19 +1,11 @@
-use Rattle.std.proofs.Common.{true, false, refl, ◌∙◌}
+use Rattle.std.proofs.Common.{refl, ◌∙◌}
 use Rattle.sm_types.specs.declared.insn.Insn.TheVariants as insn
-use Rattle.sm_types.specs.declared.insn.LoadStoreOp.{LoadStoreOp}
-use Rattle.sm_types.specs.declared.insn.LoadStoreOp.TheVariants.{Store, Load, LoadSignedTo64, LoadSignedTo32}
-use Rattle.std.proofs.Common.{◌≡◌, IsTrue}
-use Rattle.mem_access.specs.Access.{bytes_in, is_load, is_store, load_store_access}
+use Rattle.mem_access.specs.Access.{bytes_in, load_store_access}
 use Rattle.mem_access.specs.Runs.{after_load_store}
 use Rattle.mem_access.proofs.Faults.{raised, made_reading, transfers_as}
+use Rattle.mem_access.proofs.OneRegister.{loads_only}
 use Rattle.mem_access.proofs.Lists.{transfer_fault-is, after_access-is}
 use Rattle.mem_access.proofs.transfers.load_one.Goals as goal
-
-stores_not : (op : LoadStoreOp) → IsTrue (is_load op) → is_store op ≡ false
-stores_not Store h = cc
-stores_not Load h = refl
-stores_not LoadSignedTo64 h = refl
-stores_not LoadSignedTo32 h = refl
 
 pub returns-in-Some-clause-made : goal.returns-in-Some-clause-made
 returns-in-Some-clause-made c =
@@ -33,4 +25,4 @@ returns-in-None-clause-made c =
     (after_access-is it c.args.s.now c.args.pages.now.memory)
     (made_reading (load_store_access x c.args.s.now) _ c.args.s.now c.args.pages.now.memory (bytes_in x.size)
     (λ a. after_load_store x.op x a c.args.s.now c.args.pages.now.memory) _ _ c.load.result c.load_store_access-access.ensures.value
-    c.in-None.ensures c.requires.load (stores_not x.op c.requires.load) refl c.load.ensures.made)
+    c.in-None.ensures c.requires.load (loads_only x.op c.requires.load) refl c.load.ensures.made)
