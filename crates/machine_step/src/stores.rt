@@ -43,21 +43,37 @@ impl Machine {
             return Some(next);
         }
         match known.flat() {
-            Flat::StoreDoubleword(_) | Flat::StoreDoublewordAt(_, _) => {
+            Flat::StoreDoubleword(_) => {
                 self.scalars.pc = base.wrapping_add(at);
                 past(self.store_doubleword(known), &self.scalars, base)
             }
-            Flat::StoreWord(_) | Flat::StoreWordAt(_, _) => {
+            Flat::StoreDoublewordAt(_, _) => {
+                self.scalars.pc = base.wrapping_add(at);
+                past(self.store_doubleword_at(known), &self.scalars, base)
+            }
+            Flat::StoreWord(_) => {
                 self.scalars.pc = base.wrapping_add(at);
                 past(self.store_word(known), &self.scalars, base)
             }
-            Flat::StoreHalfword(_) | Flat::StoreHalfwordAt(_, _) => {
+            Flat::StoreWordAt(_, _) => {
+                self.scalars.pc = base.wrapping_add(at);
+                past(self.store_word_at(known), &self.scalars, base)
+            }
+            Flat::StoreHalfword(_) => {
                 self.scalars.pc = base.wrapping_add(at);
                 past(self.store_halfword(known), &self.scalars, base)
             }
-            Flat::StoreByte(_) | Flat::StoreByteAt(_, _) => {
+            Flat::StoreHalfwordAt(_, _) => {
+                self.scalars.pc = base.wrapping_add(at);
+                past(self.store_halfword_at(known), &self.scalars, base)
+            }
+            Flat::StoreByte(_) => {
                 self.scalars.pc = base.wrapping_add(at);
                 past(self.store_byte(known), &self.scalars, base)
+            }
+            Flat::StoreByteAt(_, _) => {
+                self.scalars.pc = base.wrapping_add(at);
+                past(self.store_byte_at(known), &self.scalars, base)
             }
             _ => known.act_beside(&mut self.scalars, bank, &self.pages, base, at, apart),
         }
@@ -113,94 +129,185 @@ impl Machine {
         self.store_by(known, size, address, x.rn, x.rt)
     }
 
-    /// The same at another address, by a way for each kind of them.
+    /// The same at an address of any kind.
     #[inline(always)]
-    fn store_elsewhere(&mut self, known: &Decoded, size: AccessSize, x: Base, address: Address) -> bool
-        requires means { instruction_of known.now.word ≡ Some (access_of LoadStoreOp.Store size x address) }
+    fn store_at(&mut self, known: &Decoded, size: AccessSize, at: Address, x: Base) -> bool
+        requires means { instruction_of known.now.word ≡ Some (access_of LoadStoreOp.Store size x at) }
         requires aligned { self.old.scalars.pc % 4 ≡ 0 }
         requires fetched { word_at self.old.pages.memory self.old.scalars.pc ≡ Some known.now.word }
         ensures { Stores self.old self.new result }
     {
-        match address {
-            Address::Offset { imm } => {
-                self.store_by(known, size, Address::Offset { imm }, x.rn, x.rt)
-            }
-            Address::Unscaled { offset } => {
-                self.store_by(known, size, Address::Unscaled { offset }, x.rn, x.rt)
-            }
-            Address::PostIndex { offset } => {
-                self.store_by(known, size, Address::PostIndex { offset }, x.rn, x.rt)
-            }
-            Address::PreIndex { offset } => {
-                self.store_by(known, size, Address::PreIndex { offset }, x.rn, x.rt)
-            }
-            Address::Register { rm, extend, scaled } => {
-                let address = Address::Register { rm, extend, scaled };
-                self.store_by(known, size, address, x.rn, x.rt)
-            }
-        }
+        self.store_by(known, size, at, x.rn, x.rt)
     }
 
-    /// Makes the store of a doubleword by a call in which its size is constant, where its bytes lie near, and tells whether
-    /// it does.
+    /// Makes the store of a doubleword at an offset, where its bytes lie near, by a call in which its size is constant, and
+    /// tells whether it does.
     #[inline(never)]
     fn store_doubleword(&mut self, known: &Decoded) -> bool
         requires aligned { self.old.scalars.pc % 4 ≡ 0 }
         requires fetched { word_at self.old.pages.memory self.old.scalars.pc ≡ Some known.now.word }
         ensures { Stores self.old self.new result }
     {
-        let size = AccessSize::Doubleword;
         match known.flat() {
-            Flat::StoreDoubleword(x) => self.store_offset(known, size, x),
-            Flat::StoreDoublewordAt(x, address) => self.store_elsewhere(known, size, x, address),
+            Flat::StoreDoubleword(x) => self.store_offset(known, AccessSize::Doubleword, x),
             _ => false,
         }
     }
 
-    /// Makes the store of a word by a call in which its size is constant, where its bytes lie near, and tells whether
-    /// it does.
+    /// The same at another address, of each kind apart.
+    #[inline(never)]
+    fn store_doubleword_at(&mut self, known: &Decoded) -> bool
+        requires aligned { self.old.scalars.pc % 4 ≡ 0 }
+        requires fetched { word_at self.old.pages.memory self.old.scalars.pc ≡ Some known.now.word }
+        ensures { Stores self.old self.new result }
+    {
+        let size = AccessSize::Doubleword;
+        match known.flat() {
+            Flat::StoreDoublewordAt(x, address) => match address {
+                Address::Offset { imm } => self.store_at(known, size, Address::Offset { imm }, x),
+                Address::Unscaled { offset } => {
+                    self.store_at(known, size, Address::Unscaled { offset }, x)
+                }
+                Address::PostIndex { offset } => {
+                    self.store_at(known, size, Address::PostIndex { offset }, x)
+                }
+                Address::PreIndex { offset } => {
+                    self.store_at(known, size, Address::PreIndex { offset }, x)
+                }
+                Address::Register { rm, extend, scaled } => {
+                    let at = Address::Register { rm, extend, scaled };
+                    self.store_at(known, size, at, x)
+                }
+            },
+            _ => false,
+        }
+    }
+
+    /// Makes the store of a word at an offset, where its bytes lie near, by a call in which its size is constant, and
+    /// tells whether it does.
     #[inline(never)]
     fn store_word(&mut self, known: &Decoded) -> bool
         requires aligned { self.old.scalars.pc % 4 ≡ 0 }
         requires fetched { word_at self.old.pages.memory self.old.scalars.pc ≡ Some known.now.word }
         ensures { Stores self.old self.new result }
     {
-        let size = AccessSize::Word;
         match known.flat() {
-            Flat::StoreWord(x) => self.store_offset(known, size, x),
-            Flat::StoreWordAt(x, address) => self.store_elsewhere(known, size, x, address),
+            Flat::StoreWord(x) => self.store_offset(known, AccessSize::Word, x),
             _ => false,
         }
     }
 
-    /// Makes the store of a halfword by a call in which its size is constant, where its bytes lie near, and tells whether
-    /// it does.
+    /// The same at another address, of each kind apart.
+    #[inline(never)]
+    fn store_word_at(&mut self, known: &Decoded) -> bool
+        requires aligned { self.old.scalars.pc % 4 ≡ 0 }
+        requires fetched { word_at self.old.pages.memory self.old.scalars.pc ≡ Some known.now.word }
+        ensures { Stores self.old self.new result }
+    {
+        let size = AccessSize::Word;
+        match known.flat() {
+            Flat::StoreWordAt(x, address) => match address {
+                Address::Offset { imm } => self.store_at(known, size, Address::Offset { imm }, x),
+                Address::Unscaled { offset } => {
+                    self.store_at(known, size, Address::Unscaled { offset }, x)
+                }
+                Address::PostIndex { offset } => {
+                    self.store_at(known, size, Address::PostIndex { offset }, x)
+                }
+                Address::PreIndex { offset } => {
+                    self.store_at(known, size, Address::PreIndex { offset }, x)
+                }
+                Address::Register { rm, extend, scaled } => {
+                    let at = Address::Register { rm, extend, scaled };
+                    self.store_at(known, size, at, x)
+                }
+            },
+            _ => false,
+        }
+    }
+
+    /// Makes the store of a halfword at an offset, where its bytes lie near, by a call in which its size is constant, and
+    /// tells whether it does.
     #[inline(never)]
     fn store_halfword(&mut self, known: &Decoded) -> bool
         requires aligned { self.old.scalars.pc % 4 ≡ 0 }
         requires fetched { word_at self.old.pages.memory self.old.scalars.pc ≡ Some known.now.word }
         ensures { Stores self.old self.new result }
     {
-        let size = AccessSize::Halfword;
         match known.flat() {
-            Flat::StoreHalfword(x) => self.store_offset(known, size, x),
-            Flat::StoreHalfwordAt(x, address) => self.store_elsewhere(known, size, x, address),
+            Flat::StoreHalfword(x) => self.store_offset(known, AccessSize::Halfword, x),
             _ => false,
         }
     }
 
-    /// Makes the store of a byte by a call in which its size is constant, where its bytes lie near, and tells whether
-    /// it does.
+    /// The same at another address, of each kind apart.
+    #[inline(never)]
+    fn store_halfword_at(&mut self, known: &Decoded) -> bool
+        requires aligned { self.old.scalars.pc % 4 ≡ 0 }
+        requires fetched { word_at self.old.pages.memory self.old.scalars.pc ≡ Some known.now.word }
+        ensures { Stores self.old self.new result }
+    {
+        let size = AccessSize::Halfword;
+        match known.flat() {
+            Flat::StoreHalfwordAt(x, address) => match address {
+                Address::Offset { imm } => self.store_at(known, size, Address::Offset { imm }, x),
+                Address::Unscaled { offset } => {
+                    self.store_at(known, size, Address::Unscaled { offset }, x)
+                }
+                Address::PostIndex { offset } => {
+                    self.store_at(known, size, Address::PostIndex { offset }, x)
+                }
+                Address::PreIndex { offset } => {
+                    self.store_at(known, size, Address::PreIndex { offset }, x)
+                }
+                Address::Register { rm, extend, scaled } => {
+                    let at = Address::Register { rm, extend, scaled };
+                    self.store_at(known, size, at, x)
+                }
+            },
+            _ => false,
+        }
+    }
+
+    /// Makes the store of a byte at an offset, where its bytes lie near, by a call in which its size is constant, and
+    /// tells whether it does.
     #[inline(never)]
     fn store_byte(&mut self, known: &Decoded) -> bool
         requires aligned { self.old.scalars.pc % 4 ≡ 0 }
         requires fetched { word_at self.old.pages.memory self.old.scalars.pc ≡ Some known.now.word }
         ensures { Stores self.old self.new result }
     {
+        match known.flat() {
+            Flat::StoreByte(x) => self.store_offset(known, AccessSize::Byte, x),
+            _ => false,
+        }
+    }
+
+    /// The same at another address, of each kind apart.
+    #[inline(never)]
+    fn store_byte_at(&mut self, known: &Decoded) -> bool
+        requires aligned { self.old.scalars.pc % 4 ≡ 0 }
+        requires fetched { word_at self.old.pages.memory self.old.scalars.pc ≡ Some known.now.word }
+        ensures { Stores self.old self.new result }
+    {
         let size = AccessSize::Byte;
         match known.flat() {
-            Flat::StoreByte(x) => self.store_offset(known, size, x),
-            Flat::StoreByteAt(x, address) => self.store_elsewhere(known, size, x, address),
+            Flat::StoreByteAt(x, address) => match address {
+                Address::Offset { imm } => self.store_at(known, size, Address::Offset { imm }, x),
+                Address::Unscaled { offset } => {
+                    self.store_at(known, size, Address::Unscaled { offset }, x)
+                }
+                Address::PostIndex { offset } => {
+                    self.store_at(known, size, Address::PostIndex { offset }, x)
+                }
+                Address::PreIndex { offset } => {
+                    self.store_at(known, size, Address::PreIndex { offset }, x)
+                }
+                Address::Register { rm, extend, scaled } => {
+                    let at = Address::Register { rm, extend, scaled };
+                    self.store_at(known, size, at, x)
+                }
+            },
             _ => false,
         }
     }

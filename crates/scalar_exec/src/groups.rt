@@ -146,7 +146,7 @@ fn multiply(s: &mut Scalars, x: &Multiply, at: u64) -> u64
 
 /// Executes an instruction that reads and writes scalar registers alone, with PC at a distance from an address:
 /// gives the distance of the next one. PC itself is neither read nor written.
-#[inline(always)]
+#[inline(never)]
 pub fn exec_group_at(s: &mut Scalars, insn: &Insn, base: u64, at: u64) -> u64
     requires scalar { IsTrue (is_scalar insn.now) }
     requires ranges { IsInRow insn.now }
