@@ -18,7 +18,7 @@ mod values;
 
 pub use bank::Bank;
 pub use checks::first_shared;
-pub use near::{load_near, store_near};
+pub use near::{load_near, load_pair_near, store_near, store_pair_near};
 pub use numbers::{read_number, write_bytes};
 pub use shared_access::{touched_fault, touched_is_shared, touches, write_answer};
 pub use stop::AccessStop;

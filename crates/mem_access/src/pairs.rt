@@ -17,7 +17,7 @@ use sm_types::{Access, AccessSize, Exception};
 
 /// The two numbers of some bytes.
 #[inline(always)]
-fn numbers_of(bytes: &[u8], wide: bool) -> (u64, u64)
+pub fn numbers_of(bytes: &[u8], wide: bool) -> (u64, u64)
     requires { length bytes.now ≡ 2 * register_size wide }
     ensures first { result.0 ≡ little_number (take (register_size wide) bytes.now) }
     ensures second { result.1 ≡ little_number (drop (register_size wide) bytes.now) }
@@ -84,7 +84,7 @@ fn read_pair_across(pages: &Pages, address: u64, wide: bool) -> Result<(u64, u64
 
 /// Eight bytes after eight.
 #[inline(always)]
-fn joined_wide(first: u64, second: u64) -> [u8; 16]
+pub fn joined_wide(first: u64, second: u64) -> [u8; 16]
     ensures { result ≡ bytes_low_first 0 8 first ++ bytes_low_first 0 8 second }
 {
     let mut bytes = [0; 16];
@@ -95,7 +95,7 @@ fn joined_wide(first: u64, second: u64) -> [u8; 16]
 
 /// Four bytes after four.
 #[inline(always)]
-fn joined_narrow(first: u64, second: u64) -> [u8; 8]
+pub fn joined_narrow(first: u64, second: u64) -> [u8; 8]
     ensures { result ≡ bytes_low_first 0 4 first ++ bytes_low_first 0 4 second }
 {
     let mut bytes = first.to_le_bytes();
