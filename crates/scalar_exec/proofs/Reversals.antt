@@ -1,5 +1,6 @@
 -- The bits of a word in reverse, by its halves.
-use Rattle.std.proofs.Common.{◌≡◌, ℕ, ◌+◌, ◌-◌, ◌*◌, ◌/◌, ◌%◌, ◌^◌, ◌<◌, sym, ap, ◌∙◌, arith, inl, inr, true, false}
+use Rattle.std.proofs.Common.{◌≡◌, ℕ, ◌+◌, ◌-◌, ◌*◌, ◌/◌, ◌%◌, ◌^◌, ◌<◌, sym, ap, ◌∙◌, arith}
+use Rattle.std.proofs.Common.{inl, inr, true, false}
 use Rattle.std.proofs.lemmas.Bool.{cases_lt}
 use Rattle.std.proofs.lemmas.Nat.Bits.{bit_at-lt, bit_at_cat_low, bit_at_cat_high}
 use Rattle.bit_ops.specs.Bits.{digit_at}
@@ -17,7 +18,8 @@ narrow-bit n i lt =
 
 -- the lower half goes to the upper one
 halves-bit : (a b i : ℕ) → b < 2 ^ 32 → i < 64
-    → digit_at 2 (reversed_bits false b * 2 ^ 32 + reversed_bits false a) i ≡ digit_at 2 (a * 2 ^ 32 + b) (64 - 1 - i)
+    → digit_at 2 (reversed_bits false b * 2 ^ 32 + reversed_bits false a) i
+    ≡ digit_at 2 (a * 2 ^ 32 + b) (64 - 1 - i)
 halves-bit a b i low lt =
     elim (cases_lt i 32) [
       | inl under ↦
@@ -32,7 +34,8 @@ halves-bit a b i low lt =
     ]
 
 pub reversed-halves : (n : ℕ) → n < 2 ^ 64
-    → reversed_bits false (n % 2 ^ 32) * 2 ^ 32 + reversed_bits false (n / 2 ^ 32 % 2 ^ 32) ≡ reversed_bits true n
+    → reversed_bits false (n % 2 ^ 32) * 2 ^ 32 + reversed_bits false (n / 2 ^ 32 % 2 ^ 32)
+    ≡ reversed_bits true n
 unfolding reversed_bits
 reversed-halves n lt =
     let a = n / 2 ^ 32 % 2 ^ 32 in

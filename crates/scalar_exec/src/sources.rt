@@ -14,7 +14,7 @@ use crate::registers::{register, write_x};
 use bit_ops::{ShiftKind, count_signs, count_zeros, reverse_bits, reverse_bytes, shift};
 use sm_types::{OneSource, OneSourceOp, Scalars, TwoSource, TwoSourceOp};
 
-/// The bits of the word in reverse: a wide one by its halves, as a reversal of 32 bits is made without a loop.
+/// The bits of the word in reverse: of a wide one by its halves, as that of 32 bits is made without a loop.
 #[inline(always)]
 fn reverse(value: u64, wide: bool) -> u64
     requires { value < word_size wide }
