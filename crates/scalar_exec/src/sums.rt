@@ -40,7 +40,8 @@ fn subtract_wide(a: u64, b: u64, carry: bool) -> (u64, Nzcv)
     let n = difference >= 1 << 63;
     let z = difference == 0;
     let c = if carry { a >= b } else { a > b };
-    let v = (a >= 1 << 63) != (b >= 1 << 63) && (a >= 1 << 63) != n;
+    let (x, y) = (a.cast_signed(), b.cast_signed());
+    let v = n != if carry { x < y } else { x <= y };
     (difference, Nzcv { n, z, c, v })
 }
 
@@ -55,7 +56,8 @@ fn subtract_narrow(a: u32, b: u32, carry: bool) -> (u32, Nzcv)
     let n = difference >= 1 << 31;
     let z = difference == 0;
     let c = if carry { a >= b } else { a > b };
-    let v = (a >= 1 << 31) != (b >= 1 << 31) && (a >= 1 << 31) != n;
+    let (x, y) = (a.cast_signed(), b.cast_signed());
+    let v = n != if carry { x < y } else { x <= y };
     (difference, Nzcv { n, z, c, v })
 }
 
