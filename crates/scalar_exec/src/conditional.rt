@@ -7,6 +7,7 @@ ghost use Rattle.scalar_exec.specs.Conditional.{compare_flags, flags_of, conditi
 
 use crate::operands::invert;
 use crate::registers::{low_word, register, write_flags, write_x};
+use crate::sums::subtract_carry;
 use bit_ops::{Nzcv, add_carry};
 use sm_types::{
     CompareOp, CompareOperand, Condition, ConditionalCompare, ConditionalSelect, Scalars, SelectOp,
@@ -100,7 +101,7 @@ fn compare(op: CompareOp, a: u64, b: u64, wide: bool) -> Nzcv
 {
     match op {
         CompareOp::Ccmn => add_carry(a, b, false, wide).1,
-        CompareOp::Ccmp => add_carry(a, invert(b, wide), true, wide).1,
+        CompareOp::Ccmp => subtract_carry(a, b, true, wide).1,
     }
 }
 

@@ -3,6 +3,7 @@ ghost use Rattle.std.specs.Prelude.{◌≡◌, ◌%◌, ◌<◌, true};
 ghost use Rattle.sm_types.specs.declared.insn.OneSourceOp.TheVariants.{Rev64};
 ghost use Rattle.bit_ops.specs.Sums.{word_size};
 ghost use Rattle.bit_ops.specs.Bits.{width_of};
+ghost use Rattle.bit_ops.specs.Reversals.{reversed_bits};
 ghost use Rattle.bit_ops.specs.Shifts.{shifted};
 ghost use Rattle.a64_table.specs.Ranges.{IsOneSource, IsTwoSource};
 ghost use Rattle.scalar_exec.specs.Sources.{one_source_value, one_source, quotient, signed_quotient};
@@ -13,6 +14,21 @@ use crate::registers::{register, write_x};
 use bit_ops::{ShiftKind, count_signs, count_zeros, reverse_bits, reverse_bytes, shift};
 use sm_types::{OneSource, OneSourceOp, Scalars, TwoSource, TwoSourceOp};
 
+/// The bits of the word in reverse: of a wide one by its halves, as that of 32 bits is made without a loop.
+#[inline(always)]
+fn reverse(value: u64, wide: bool) -> u64
+    requires { value < word_size wide }
+    ensures { result ≡ reversed_bits wide value }
+{
+    let low = reverse_bits(value, false);
+    if wide {
+        let high = reverse_bits(value >> 32, false);
+        (low << 32) + high
+    } else {
+        low
+    }
+}
+
 /// The bits of the word or the bytes of its groups in reverse, or a count from its top.
 #[inline(always)]
 #[tactic(auto, unfolding(crate::specs::Sources::one_source_value))]
@@ -22,7 +38,7 @@ fn one_value(op: OneSourceOp, value: u64, wide: bool) -> u64
     ensures { result ≡ one_source_value op wide value }
 {
     match op {
-        OneSourceOp::Rbit => reverse_bits(value, wide),
+        OneSourceOp::Rbit => reverse(value, wide),
         OneSourceOp::Rev16 => reverse_bytes(value, 2, wide),
         OneSourceOp::Rev32 => reverse_bytes(value, 4, wide),
         OneSourceOp::Rev64 => reverse_bytes(value, 8, wide),
