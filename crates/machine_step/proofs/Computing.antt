@@ -146,7 +146,7 @@ bank_stays old new h = record {
   owner = ap (λ (b : Bank). b.owner) h;
 }
 
-acted_stays : (halts : ℕ → ℕ → Bool) (apart : Bool) (m : AddressSpace) (old : Scalars) (v : Bank) (new : Scalars) (w : Bank)
+pub acted_stays : (halts : ℕ → ℕ → Bool) (apart : Bool) (m : AddressSpace) (old : Scalars) (v : Bank) (new : Scalars) (w : Bank)
     → IsComputedIn halts apart m old v new w → StaysBank v w
 acted_stays halts apart m old v new w h =
     elim h.made [
@@ -191,7 +191,7 @@ vectored word m old v new w mode aligned fetched h =
     ∙ ap (λ (r : Scalars). Becomes (core_of (record m { scalars = r }) (held_with w.vectors v.za.vectors))) (sym h.made.scalars)
     ∙ ap (λ (z : List (List ℕ)). Becomes (core_of (record m { scalars = new }) (held_with w.vectors z))) (sym za)
 
-acted : (halts : ℕ → ℕ → Bool) (apart : Bool) (m : Machine) (old : Scalars) (v : Bank) (new : Scalars) (w : Bank)
+pub acted : (halts : ℕ → ℕ → Bool) (apart : Bool) (m : Machine) (old : Scalars) (v : Bank) (new : Scalars) (w : Bank)
     → v.vectors.streaming ≡ m.streaming → IsComputedIn halts apart m.pages.memory old v new w
     → (effect_of (vector_bytes v.vectors.vl) (core_of (record m { scalars = old }) (bank_state v))
     ≡ Becomes (core_of (record m { scalars = new }) (bank_state w)))

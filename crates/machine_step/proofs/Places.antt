@@ -1,6 +1,8 @@
 -- The places of the words of a page.
 use Rattle.std.proofs.Common.{◌≡◌, ℕ, ◌<◌, ◌%◌, ◌^◌, ◌-◌, bit_and, ap, sym, ◌∙◌, refl, arith, lit≤}
-use Rattle.std.proofs.Common.{Option}
+use Rattle.std.proofs.Common.{Option, Some, List, length, get_or}
+use Rattle.std.proofs.lemmas.List.{slice_get-get_or}
+use Rattle.machine_step.specs.declared.decoder.Decoded.{Decoded}
 use Rattle.paged_memory.specs.Memory.{AddressSpace, word_at}
 use Rattle.std.proofs.lemmas.Nat.{and_assoc, and_mask}
 use Rattle.std.proofs.lemmas.Nat.Bits.{and_high_mask}
@@ -19,3 +21,12 @@ place_aligned n h = sym (and_mask n 2) ∙ masked n 0xFFFF_FFFF_FFFF_F003 3 3 re
 
 pub fetched_at : (m : AddressSpace) (pc place : ℕ) (word : Option ℕ) → place ≡ pc → word_at m place ≡ word → word_at m pc ≡ word
 fetched_at m pc place word same h = ap (λ (p : ℕ). word_at m p) (sym same) ∙ h
+
+-- the word at a place of a list
+pub word_there : (places : List Decoded) (i : ℕ) (p d : Decoded) → i < length places → p ≡ get_or places i p
+    → (get_or places i d).word ≡ p.word
+word_there places i p d l is =
+    let some : Some (get_or places i d) ≡ Some (get_or places i p) =
+    sym (slice_get-get_or places i d l) ∙ slice_get-get_or places i p l in
+    let same : get_or places i d ≡ get_or places i p = cc in
+    ap (λ (k : Decoded). k.word) (same ∙ sym is)

@@ -110,6 +110,11 @@ ActsTo apart m word base at old before (Some next) new after =
     IsActed apart m word (at_distance base at old) before (at_distance base next new) after
 ActsTo apart m word base at old before None new after = (new ≡ at_distance base at old) × (after ≡ before)
 
+-- an answer, with PC at a distance from an address: so far it is where an instruction was executed
+abbrev pub GoesTo : Bool → ℕ → Scalars → Option ℕ → Type 0
+GoesTo executed base s None = executed ≡ false
+GoesTo executed base s (Some next) = (executed ≡ true) × (s ≡ at_distance base next s)
+
 -- the instruction at PC does, and it is none to halt before
 pub record IsComputedIn (halts : ℕ → ℕ → Bool) (apart : Bool) (m : AddressSpace) (old : Scalars)
     (before : Bank) (new : Scalars) (after : Bank) : Type 0 where

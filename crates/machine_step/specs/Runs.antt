@@ -43,6 +43,11 @@ abbrev pub Stores : Machine → Machine → Bool → Type 0
 Stores old new true = IsStored old new
 Stores old new false = new ≡ old
 
+-- the same with PC at a distance from an address; where it is not made PC alone may be another
+abbrev pub StoresTo : ℕ → ℕ → Machine → Option ℕ → Machine → Type 0
+StoresTo base at old (Some next) new = IsStored (machine_at base at old) (machine_at base next new)
+StoresTo base at old None new = machine_at base at new ≡ machine_at base at old
+
 -- so many instructions are executed, and what is known of the next one
 pub record RunsOn (halts : ℕ → ℕ → Bool) (apart : Bool) (most : ℕ) (places : List Decoded) (old : Machine)
     (before : Bank) (new : Machine) (after : Bank) (made : ℕ × Next) : Type 0 where

@@ -1,5 +1,5 @@
 //! Stores of one and two registers that are kept.
-ghost use Rattle.std.specs.Prelude.{◌≡◌, ◌&&◌, ◌%◌, ◌+◌, ◌^◌, Bool, IsTrue, Some, false};
+ghost use Rattle.std.specs.Prelude.{◌≡◌, ◌&&◌, ◌%◌, ◌+◌, ◌^◌, ◌<◌, Bool, IsTrue, Some, false};
 ghost use Rattle.a64_encode.specs.Either.{instruction_of};
 ghost use Rattle.scalar_exec.specs.Forms.{access_of, offset_access};
 ghost use Rattle.mem_access.specs.Transfer.{is_access};
@@ -9,39 +9,26 @@ ghost use Rattle.machine_step.specs.ProcessorState.{VectorState};
 ghost use Rattle.machine_step.specs.Effect.{effect_of};
 ghost use Rattle.machine_step.specs.Needs.{needs_bank};
 ghost use Rattle.machine_step.specs.Machine.{core_of, AttemptsOn, IsInMode, IsSameBank, KeepsMode};
-ghost use Rattle.machine_step.specs.Runs.{Stores, MovesTo};
+ghost use Rattle.machine_step.specs.Runs.{Stores, StoresTo, MovesTo};
 
 use crate::at_once::Attempt;
 use crate::decoder::{Decoded, past};
 use crate::machine::Machine;
-use mem_access::{Bank, store_near, touched_is_shared};
+use mem_access::{Bank, store_near, store_pair_near, touched_is_shared};
 use scalar_exec::{Base, Flat, OffsetAccess};
-use sm_types::{AccessSize, Address, Insn, LoadStore, LoadStoreOp};
+use sm_types::{AccessSize, Address, Insn, LoadStore, LoadStoreOp, PairOp};
 
 impl Machine {
-    /// Executes the kept instruction, PC being at a distance from an address, where it reads and writes registers
-    /// alone, is a load that no check refuses, or is a store of one register whose bytes lie near, and gives the
-    /// distance of the next one, with PC as it may be; where it does not, PC is that of the instruction.
+    /// Makes the kept instruction, PC being at a distance from an address, where it is a store whose bytes lie near,
+    /// and gives the distance of the next one, with PC as it may be.
     #[inline(always)]
-    pub(crate) fn act_or_store(
-        &mut self,
-        known: &Decoded,
-        bank: &mut Bank,
-        base: u64,
-        at: u64,
-        apart: bool,
-    ) -> Option<u64>
+    fn store_kept(&mut self, known: &Decoded, base: u64, at: u64) -> Option<u64>
+        requires word { known.now.word < 2 ^ 32 }
         requires aligned { (base + at) % 2 ^ 64 % 4 ≡ 0 }
         requires fetched { word_at self.old.pages.memory ((base + at) % 2 ^ 64) ≡ Some known.now.word }
-        requires mode { IsInMode bank.old self.old }
-        ensures made { MovesTo apart base at self.old bank.old result self.new bank.new }
-        ensures shared { KeepsShared self.old.pages self.new.pages }
-        ensures same { IsSameBank bank.old bank.new }
-        ensures mode { IsInMode bank.new self.new }
+        ensures { StoresTo base at self.old result self.new }
     {
-        if let Some(next) = known.compute_at(&mut self.scalars, base, at) {
-            return Some(next);
-        }
+        // each way sets PC for itself, so that one jump by the kind of the instruction does for all
         match known.flat() {
             Flat::StoreDoubleword(_) => {
                 self.scalars.pc = base.wrapping_add(at);
@@ -75,8 +62,42 @@ impl Machine {
                 self.scalars.pc = base.wrapping_add(at);
                 past(self.store_byte_at(known), &self.scalars, base)
             }
-            _ => known.act_beside(&mut self.scalars, bank, &self.pages, base, at, apart),
+            Flat::Store => {
+                self.scalars.pc = base.wrapping_add(at);
+                past(self.store_pair(known), &self.scalars, base)
+            }
+            _ => None,
         }
+    }
+
+    /// Executes the kept instruction, PC being at a distance from an address, where it reads and writes registers
+    /// alone, is a load that no check refuses, or is a store whose bytes lie near, and gives the distance of the next
+    /// one, with PC as it may be; where it does not, PC is that of the instruction.
+    #[inline(always)]
+    pub(crate) fn act_or_store(
+        &mut self,
+        known: &Decoded,
+        bank: &mut Bank,
+        base: u64,
+        at: u64,
+        apart: bool,
+    ) -> Option<u64>
+        requires word { known.now.word < 2 ^ 32 }
+        requires aligned { (base + at) % 2 ^ 64 % 4 ≡ 0 }
+        requires fetched { word_at self.old.pages.memory ((base + at) % 2 ^ 64) ≡ Some known.now.word }
+        requires mode { IsInMode bank.old self.old }
+        ensures made { MovesTo apart base at self.old bank.old result self.new bank.new }
+        ensures shared { KeepsShared self.old.pages self.new.pages }
+        ensures same { IsSameBank bank.old bank.new }
+        ensures mode { IsInMode bank.new self.new }
+    {
+        if let Some(next) = known.compute_at(&mut self.scalars, base, at) {
+            return Some(next);
+        }
+        if let Some(next) = self.store_kept(known, base, at) {
+            return Some(next);
+        }
+        known.act_beside(&mut self.scalars, bank, &self.pages, base, at, apart)
     }
 
     /// Makes the store of one register of these parts, which the word means, where its bytes lie near, and tells
@@ -90,6 +111,7 @@ impl Machine {
         rn: u8,
         rt: u8,
     ) -> bool
+        requires word { known.now.word < 2 ^ 32 }
         requires means { instruction_of known.now.word ≡ Some (Insn.LoadStore (record {
           op = LoadStoreOp.Store;
           size = size;
@@ -120,6 +142,7 @@ impl Machine {
     /// The same at an offset.
     #[inline(always)]
     fn store_offset(&mut self, known: &Decoded, size: AccessSize, x: OffsetAccess) -> bool
+        requires word { known.now.word < 2 ^ 32 }
         requires means { instruction_of known.now.word ≡ Some (offset_access LoadStoreOp.Store size x) }
         requires aligned { self.old.scalars.pc % 4 ≡ 0 }
         requires fetched { word_at self.old.pages.memory self.old.scalars.pc ≡ Some known.now.word }
@@ -132,6 +155,7 @@ impl Machine {
     /// The same at an address of any kind.
     #[inline(always)]
     fn store_at(&mut self, known: &Decoded, size: AccessSize, at: Address, x: Base) -> bool
+        requires word { known.now.word < 2 ^ 32 }
         requires means { instruction_of known.now.word ≡ Some (access_of LoadStoreOp.Store size x at) }
         requires aligned { self.old.scalars.pc % 4 ≡ 0 }
         requires fetched { word_at self.old.pages.memory self.old.scalars.pc ≡ Some known.now.word }
@@ -144,6 +168,7 @@ impl Machine {
     /// tells whether it does.
     #[inline(never)]
     fn store_doubleword(&mut self, known: &Decoded) -> bool
+        requires word { known.now.word < 2 ^ 32 }
         requires aligned { self.old.scalars.pc % 4 ≡ 0 }
         requires fetched { word_at self.old.pages.memory self.old.scalars.pc ≡ Some known.now.word }
         ensures { Stores self.old self.new result }
@@ -157,6 +182,7 @@ impl Machine {
     /// The same at another address, of each kind apart.
     #[inline(never)]
     fn store_doubleword_at(&mut self, known: &Decoded) -> bool
+        requires word { known.now.word < 2 ^ 32 }
         requires aligned { self.old.scalars.pc % 4 ≡ 0 }
         requires fetched { word_at self.old.pages.memory self.old.scalars.pc ≡ Some known.now.word }
         ensures { Stores self.old self.new result }
@@ -187,6 +213,7 @@ impl Machine {
     /// tells whether it does.
     #[inline(never)]
     fn store_word(&mut self, known: &Decoded) -> bool
+        requires word { known.now.word < 2 ^ 32 }
         requires aligned { self.old.scalars.pc % 4 ≡ 0 }
         requires fetched { word_at self.old.pages.memory self.old.scalars.pc ≡ Some known.now.word }
         ensures { Stores self.old self.new result }
@@ -200,6 +227,7 @@ impl Machine {
     /// The same at another address, of each kind apart.
     #[inline(never)]
     fn store_word_at(&mut self, known: &Decoded) -> bool
+        requires word { known.now.word < 2 ^ 32 }
         requires aligned { self.old.scalars.pc % 4 ≡ 0 }
         requires fetched { word_at self.old.pages.memory self.old.scalars.pc ≡ Some known.now.word }
         ensures { Stores self.old self.new result }
@@ -230,6 +258,7 @@ impl Machine {
     /// tells whether it does.
     #[inline(never)]
     fn store_halfword(&mut self, known: &Decoded) -> bool
+        requires word { known.now.word < 2 ^ 32 }
         requires aligned { self.old.scalars.pc % 4 ≡ 0 }
         requires fetched { word_at self.old.pages.memory self.old.scalars.pc ≡ Some known.now.word }
         ensures { Stores self.old self.new result }
@@ -243,6 +272,7 @@ impl Machine {
     /// The same at another address, of each kind apart.
     #[inline(never)]
     fn store_halfword_at(&mut self, known: &Decoded) -> bool
+        requires word { known.now.word < 2 ^ 32 }
         requires aligned { self.old.scalars.pc % 4 ≡ 0 }
         requires fetched { word_at self.old.pages.memory self.old.scalars.pc ≡ Some known.now.word }
         ensures { Stores self.old self.new result }
@@ -273,6 +303,7 @@ impl Machine {
     /// tells whether it does.
     #[inline(never)]
     fn store_byte(&mut self, known: &Decoded) -> bool
+        requires word { known.now.word < 2 ^ 32 }
         requires aligned { self.old.scalars.pc % 4 ≡ 0 }
         requires fetched { word_at self.old.pages.memory self.old.scalars.pc ≡ Some known.now.word }
         ensures { Stores self.old self.new result }
@@ -286,6 +317,7 @@ impl Machine {
     /// The same at another address, of each kind apart.
     #[inline(never)]
     fn store_byte_at(&mut self, known: &Decoded) -> bool
+        requires word { known.now.word < 2 ^ 32 }
         requires aligned { self.old.scalars.pc % 4 ≡ 0 }
         requires fetched { word_at self.old.pages.memory self.old.scalars.pc ≡ Some known.now.word }
         ensures { Stores self.old self.new result }
@@ -307,6 +339,31 @@ impl Machine {
                     let at = Address::Register { rm, extend, scaled };
                     self.store_at(known, size, at, x)
                 }
+            },
+            _ => false,
+        }
+    }
+
+    /// Makes the store of two registers, where their bytes lie near, by a call, and tells whether it does.
+    #[inline(never)]
+    fn store_pair(&mut self, known: &Decoded) -> bool
+        requires word { known.now.word < 2 ^ 32 }
+        requires aligned { self.old.scalars.pc % 4 ≡ 0 }
+        requires fetched { word_at self.old.pages.memory self.old.scalars.pc ≡ Some known.now.word }
+        ensures { Stores self.old self.new result }
+    {
+        touched_is_shared();
+        match known.insn() {
+            Insn::LoadStorePair(x) => match x.op {
+                PairOp::Stp => {
+                    if store_pair_near(x, &mut self.scalars, &mut self.pages) {
+                        self.step_past();
+                        true
+                    } else {
+                        false
+                    }
+                }
+                PairOp::Ldp => false,
             },
             _ => false,
         }
