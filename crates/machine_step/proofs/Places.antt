@@ -1,7 +1,7 @@
 -- The places of the words of a page.
 use Rattle.std.proofs.Common.{◌≡◌, ℕ, ◌<◌, ◌%◌, ◌^◌, ◌-◌, bit_and, ap, sym, ◌∙◌, refl, arith, lit≤}
 use Rattle.std.proofs.Common.{Option, Some, List, length, get_or}
-use Rattle.std.proofs.lemmas.List.{slice_get-get_or}
+use Rattle.std.proofs.lemmas.Option.{slice_get-get_or}
 use Rattle.machine_step.specs.declared.decoder.Decoded.{Decoded}
 use Rattle.paged_memory.specs.Memory.{AddressSpace, word_at}
 use Rattle.std.proofs.lemmas.Nat.{and_assoc, and_mask}

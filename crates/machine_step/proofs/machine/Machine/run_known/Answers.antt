@@ -6,6 +6,7 @@ use Rattle.machine_step.specs.Next.{Follows, IsNext}
 use Rattle.machine_step.specs.declared.decoder.Decoded.{Decoded}
 use Rattle.machine_step.specs.declared.machine.Machine.{Machine}
 use Rattle.machine_step.specs.declared.page_run.Next.{Next}
+use Rattle.machine_step.specs.declared.page_run.Next.TheVariants.{Kept}
 use Rattle.machine_step.specs.Runs.{RunsOn}
 use Rattle.machine_step.proofs.Computing.{executed_after, same_trans, mode_stays}
 use Rattle.machine_step.proofs.Steps.{executed_more}
@@ -74,7 +75,8 @@ returns-then-done-most g c =
       executed = executed_after halts c.args.apart bank.vectors.vl c.runs.done c.run_on-made.result.0 from c.runs.self c.runs.bank
           (core_of c.run_on-made.new.self (bank_state c.run_on-made.new.bank)) h.same.vl h.executed r.executed;
       few = omega (arith, r.few, c.runs-test.true, h.few);
-      next = r.next;
+      next = subst (λ (o : Next). Follows halts c.run_on-made.new.self.pages.memory c.args.decoder.now.places.items
+          c.run_on-made.new.self.scalars o) c.in-Kept.is r.next;
       owned = kept_trans c.args.self.now.pages c.runs.self.pages c.run_on-made.new.self.pages h.owned
           r.owned;
       same = same_trans bank c.runs.bank c.run_on-made.new.bank h.same r.same;
@@ -90,12 +92,13 @@ returns-in-Waits g c =
     let from = core_of c.args.self.now (bank_state bank) in
     let n = c.run_on-made.new in
     subst (λ (m : Machine). RunsOn halts c.args.apart c.args.most c.args.decoder.now.places.items c.args.self.now bank m n.bank
-    (c.runs.done + c.run_on-made.result.0, c.run_on-made.result.1)) (sym (c.in-Waits.ensures.effect n.bank).0)
+    (c.runs.done + c.run_on-made.result.0, Kept c.in-Kept.place)) (sym (c.in-Waits.ensures.effect n.bank).0)
     (record {
       executed = executed_after halts c.args.apart bank.vectors.vl c.runs.done c.run_on-made.result.0 from c.runs.self c.runs.bank
           (core_of c.run_on-made.new.self (bank_state c.run_on-made.new.bank)) h.same.vl h.executed r.executed;
       few = omega (arith, r.few, c.runs-test.true, h.few);
-      next = r.next;
+      next = subst (λ (o : Next). Follows halts c.run_on-made.new.self.pages.memory c.args.decoder.now.places.items
+          c.run_on-made.new.self.scalars o) c.in-Kept.is r.next;
       owned = kept_trans c.args.self.now.pages c.runs.self.pages c.run_on-made.new.self.pages h.owned
           r.owned;
       same = same_trans bank c.runs.bank c.run_on-made.new.bank h.same r.same;
