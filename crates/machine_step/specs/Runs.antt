@@ -20,7 +20,8 @@ abbrev pub machine_at : ℕ → ℕ → Machine → Machine
 machine_at base at m = record m { scalars = at_distance base at m.scalars }
 
 -- the instruction at PC is executed, and needs no bank where the machine is kept off it
-pub record IsMoved (apart : Bool) (old : Machine) (before : Bank) (new : Machine) (after : Bank) : Type 0 where
+pub record IsMoved (apart : Bool) (old : Machine) (before : Bank) (new : Machine) (after : Bank)
+    : Type 0 where
   pub effect : StepsOn effect_of old before new after IsNext
   pub kept : (apart && needs_bank (core_of old (bank_state before))) ≡ false
 

@@ -1,27 +1,19 @@
-//! Instructions of one page of code that is held: those that are known, and that read and write registers
-//! alone, load some or store some.
-ghost use Rattle.std.specs.Prelude.{◌≡◌, ◌&&◌, ◌%◌, ◌<◌, ◌≤◌, Bool, IsTrue, Some, false, true, length};
-ghost use Rattle.a64_encode.specs.Either.{instruction_of};
-ghost use Rattle.mem_access.specs.Transfer.{is_access};
-ghost use Rattle.paged_memory.specs.Memory.{bytes_with, word_at};
-ghost use Rattle.paged_memory.specs.PageTable.{KeepsOwned};
+//! Instructions of one page of code, of which the bytes are borrowed: those that are known, and that read and
+//! write registers alone or load some.
+ghost use Rattle.std.specs.Prelude.{◌≡◌, ◌%◌, ◌<◌, ◌≤◌, Some, true, length};
+ghost use Rattle.paged_memory.specs.Memory.{bytes_with};
 ghost use Rattle.mem_access.specs.Bank.{bank_state};
-ghost use Rattle.machine_step.specs.ProcessorState.{VectorState, vector_bytes};
-ghost use Rattle.machine_step.specs.Effect.{effect_of};
-ghost use Rattle.machine_step.specs.Needs.{needs_bank};
-ghost use Rattle.machine_step.specs.Machine.{core_of, AttemptsOn, IsInMode, IsSameBank, KeepsMode};
+ghost use Rattle.machine_step.specs.ProcessorState.{vector_bytes};
+ghost use Rattle.machine_step.specs.Machine.{core_of, IsInMode, IsSameBank};
 ghost use Rattle.machine_step.specs.Computed.{AreComputed};
 ghost use Rattle.machine_step.specs.Next.{Follows};
 ghost use Rattle.machine_step.specs.Several.{AreExecuted};
-ghost use Rattle.machine_step.specs.Runs.{RunsOn};
-ghost use Rattle.paged_memory.specs.Code.{IsHeld};
 
-use crate::at_once::Attempt;
 use crate::decoder::{Decoded, Decoder};
 use crate::halts::Halts;
 use crate::machine::Machine;
 use mem_access::Bank;
-use paged_memory::{Code, Pages, word_of};
+use paged_memory::{Pages, word_of};
 use sm_types::Scalars;
 
 /// What is known of the instruction at PC.
@@ -40,7 +32,7 @@ pub(crate) enum Next {
 /// Whether a distance from the base of a page is that of one of its words: it is below 4096, and a multiple
 /// of 4, which is one test of these bits.
 #[inline(always)]
-fn is_word_place(at: u64) -> bool
+pub(crate) fn is_word_place(at: u64) -> bool
     ensures within { result ≡ true → at < 4096 }
     ensures aligned { result ≡ true → at % 4 ≡ 0 }
 {
@@ -103,7 +95,7 @@ impl Machine {
     /// Executes instructions of the page of PC that are known and read and write registers alone, or load
     /// some, `most` at most, and tells how many, and what is known of the next one.
     #[inline(always)]
-    fn run_page<H: Halts>(
+    pub(crate) fn run_page<H: Halts>(
         &mut self,
         decoder: &Decoder,
         bank: &mut Bank,
@@ -136,138 +128,5 @@ impl Machine {
             ),
             None => (0, Next::Unknown),
         }
-    }
-
-    /// The same, and stores of one register whose bytes lie near besides: the bytes of the page are held apart from
-    /// the pages, since such a store writes to owned pages alone. Where they cannot be held, what is known of the
-    /// next one stays. A call of its own: the loop over a page is laid into it too.
-    #[inline(never)]
-    fn run_stores<H: Halts>(
-        &mut self,
-        decoder: &Decoder,
-        bank: &mut Bank,
-        halts: &H,
-        apart: bool,
-        most: u32,
-        next: Next,
-    ) -> (u32, Next)
-        requires mode { IsInMode bank.old self.old }
-        requires next { Follows (H.halts halts.now) self.old.pages.memory decoder.now.places.items
-            self.old.scalars next }
-        ensures { RunsOn (H.halts halts.now) apart most decoder.now.places.items self.old bank.old self.new bank.new
-            result }
-    {
-        let base = self.scalars.pc / 4096 * 4096;
-        match self.pages.hold_code(base) {
-            Some(code) => self.run_held(decoder, bank, &code, base, halts, apart, most),
-            None => (0, next),
-        }
-    }
-
-    /// The loop of `act_known`, with the stores.
-    #[inline(always)]
-    fn run_held<H: Halts>(
-        &mut self,
-        decoder: &Decoder,
-        bank: &mut Bank,
-        code: &Code,
-        base: u64,
-        halts: &H,
-        apart: bool,
-        most: u32,
-    ) -> (u32, Next)
-        requires mode { IsInMode bank.old self.old }
-        requires base { base % 4096 ≡ 0 }
-        requires held { IsHeld code.now base self.old.pages }
-        ensures { RunsOn (H.halts halts.now) apart most decoder.now.places.items self.old bank.old self.new bank.new
-            result }
-    {
-        let bytes = code.bytes();
-        let places = decoder.places();
-        let mut left = most;
-        let mut at = self.scalars.pc.wrapping_sub(base);
-        'turns: while left > 0 {
-            if !is_word_place(at) {
-                self.scalars.pc = base.wrapping_add(at);
-                return (most - left, Next::Unknown);
-            }
-            let place = at as usize;
-            let known = &places[place / 4];
-            if known.word() != word_of(bytes, place) {
-                self.scalars.pc = base.wrapping_add(at);
-                return (most - left, Next::Unknown);
-            }
-            if halts.halts(base.wrapping_add(at), known.word()) {
-                self.scalars.pc = base.wrapping_add(at);
-                return (most - left, Next::Halts(known.word()));
-            }
-            match self.act_or_store(known, bank, base, at, apart) {
-                Some(next) => at = next,
-                None => return (most - left, Next::Kept(place / 4)),
-            }
-            left -= 1;
-        }
-        self.scalars.pc = base.wrapping_add(at);
-        (most - left, Next::Unknown)
-    }
-
-    /// The one after the other: the second where the first ends before a store.
-    #[inline(always)]
-    fn run_on<H: Halts>(
-        &mut self,
-        decoder: &Decoder,
-        bank: &mut Bank,
-        halts: &H,
-        apart: bool,
-        most: u32,
-    ) -> (u32, Next)
-        requires { IsInMode bank.old self.old }
-        ensures { RunsOn (H.halts halts.now) apart most decoder.now.places.items self.old bank.old self.new bank.new
-            result }
-    {
-        let (made, next) = self.run_page(decoder, bank, halts, apart, most);
-        let Next::Kept(place) = next else {
-            return (made, next);
-        };
-        if made == most || !decoder.kept(place).is_store() {
-            return (made, next);
-        }
-        let (more, next) = self.run_stores(decoder, bank, halts, apart, most - made, next);
-        (made + more, next)
-    }
-
-    /// The same with the other stores of one and two registers: after each the page is looked up again, since it
-    /// may write to it.
-    #[inline(always)]
-    pub(crate) fn run_known<H: Halts>(
-        &mut self,
-        decoder: &Decoder,
-        bank: &mut Bank,
-        halts: &H,
-        apart: bool,
-        most: u32,
-    ) -> (u32, Next)
-        requires { IsInMode bank.old self.old }
-        ensures { RunsOn (H.halts halts.now) apart most decoder.now.places.items self.old bank.old self.new bank.new
-            result }
-    {
-        let mut done = 0;
-        'runs: while done < most {
-            let (made, next) = self.run_on(decoder, bank, halts, apart, most - done);
-            done += made;
-            let Next::Kept(place) = next else {
-                return (done, next);
-            };
-            let known = decoder.kept(place);
-            if done == most || !known.is_store() {
-                return (done, next);
-            }
-            match self.store_known(known) {
-                Attempt::Done => done += 1,
-                Attempt::Waits => return (done, next),
-                Attempt::Memory => return (done, Next::Unknown),
-            }
-        }
-        (done, Next::Unknown)
     }
 }

@@ -19,8 +19,8 @@ use scalar_exec::{Base, Flat, OffsetAccess};
 use sm_types::{AccessSize, Address, Insn, LoadStore, LoadStoreOp, PairOp};
 
 impl Machine {
-    /// Makes the kept instruction, PC being at a distance from an address, where it is a store whose bytes lie near,
-    /// and gives the distance of the next one, with PC as it may be.
+    /// Makes the kept instruction, PC being at a distance from an address, where it is a store whose bytes
+    /// lie near, and gives the distance of the next one, with PC as it may be.
     #[inline(always)]
     fn store_kept(&mut self, known: &Decoded, base: u64, at: u64) -> Option<u64>
         requires word { known.now.word < 2 ^ 32 }
@@ -70,9 +70,9 @@ impl Machine {
         }
     }
 
-    /// Executes the kept instruction, PC being at a distance from an address, where it reads and writes registers
-    /// alone, is a load that no check refuses, or is a store whose bytes lie near, and gives the distance of the next
-    /// one, with PC as it may be; where it does not, PC is that of the instruction.
+    /// Executes the kept instruction, PC being at a distance from an address, where it reads and writes
+    /// registers alone, is a load that no check refuses, or is a store whose bytes lie near, and gives the
+    /// distance of the next one, with PC as it may be; where it does not, PC is that of the instruction.
     #[inline(always)]
     pub(crate) fn act_or_store(
         &mut self,
@@ -100,8 +100,8 @@ impl Machine {
         known.act_beside(&mut self.scalars, bank, &self.pages, base, at, apart)
     }
 
-    /// Makes the store of one register of these parts, which the word means, where its bytes lie near, and tells
-    /// whether it does.
+    /// Makes the store of one register of these parts, which the word means, where its bytes lie near, and
+    /// tells whether it does.
     #[inline(always)]
     fn store_by(
         &mut self,
@@ -164,8 +164,8 @@ impl Machine {
         self.store_by(known, size, at, x.rn, x.rt)
     }
 
-    /// Makes the store of a doubleword at an offset, where its bytes lie near, by a call in which its size is constant, and
-    /// tells whether it does.
+    /// Makes the store of a doubleword at an offset, where its bytes lie near, by a call in which its size is
+    /// constant, and tells whether it does.
     #[inline(never)]
     fn store_doubleword(&mut self, known: &Decoded) -> bool
         requires word { known.now.word < 2 ^ 32 }
@@ -209,8 +209,8 @@ impl Machine {
         }
     }
 
-    /// Makes the store of a word at an offset, where its bytes lie near, by a call in which its size is constant, and
-    /// tells whether it does.
+    /// Makes the store of a word at an offset, where its bytes lie near, by a call in which its size is
+    /// constant, and tells whether it does.
     #[inline(never)]
     fn store_word(&mut self, known: &Decoded) -> bool
         requires word { known.now.word < 2 ^ 32 }
@@ -254,8 +254,8 @@ impl Machine {
         }
     }
 
-    /// Makes the store of a halfword at an offset, where its bytes lie near, by a call in which its size is constant, and
-    /// tells whether it does.
+    /// Makes the store of a halfword at an offset, where its bytes lie near, by a call in which its size is
+    /// constant, and tells whether it does.
     #[inline(never)]
     fn store_halfword(&mut self, known: &Decoded) -> bool
         requires word { known.now.word < 2 ^ 32 }
@@ -299,8 +299,8 @@ impl Machine {
         }
     }
 
-    /// Makes the store of a byte at an offset, where its bytes lie near, by a call in which its size is constant, and
-    /// tells whether it does.
+    /// Makes the store of a byte at an offset, where its bytes lie near, by a call in which its size is
+    /// constant, and tells whether it does.
     #[inline(never)]
     fn store_byte(&mut self, known: &Decoded) -> bool
         requires word { known.now.word < 2 ^ 32 }
