@@ -62,8 +62,8 @@ pub fn is_owned(bank: &Bank, thread: u32) -> bool
     }
 }
 
-/// What a run ends with: contexts of its guest threads, and the words that they share. That there is one for
-/// each thread, in order, the runs that give it say.
+/// What a run ends with: contexts of its guest threads, of which number k is that of thread k, and the words
+/// that they share. How many there are the runs that give it say.
 #[derive(Drop)]
 pub struct Finished {
     pub contexts: Vec<Context>,

@@ -13,8 +13,8 @@ use Rattle.kernel_contexts.specs.Turn.{is_delivery_due}
 use Rattle.kernel_contexts.specs.HandlerRun.{IsNext, IsPlain}
 use Rattle.kernel_contexts.specs.Watch.{AreOfSignals}
 
--- a delivery is due in a plain state whose handlers and mask are of signals alone, and each byte of its frame
--- may be read
+-- a delivery is due, and neither a poll nor the budget's end, in a plain state whose handlers and mask are of
+-- signals alone, and each byte of its frame may be read
 pub record MayDeliver (config : Config) (s : State) : Type 0 where
   pub plain : IsPlain config s
   pub next : IsNext config s
