@@ -317,7 +317,46 @@ def try_port(tests, client):
     tests.check("no port", tests.run(GDB, program, tests.path("planned.sim"), "--port", 65536)[0], 2)
 
 
+def data_of(text):
+    """The first report in a page."""
+    return json.loads(re.search(r'id="data">(.*?)</script>', text)[1])["reports"][0]
+
+
+# of the events of a thread of examples/race.s the instruction before which it stands
+MADE = {"lock": "ldar x4, [x2]", "set": "stlr x3, [x2]", "read": "ldr x5, [x2, #8]", "add": "str x5, [x2, #8]", "open": "stlr xzr, [x2]"}
+
+
+def try_page(tests, _):
+    """With the program the page has the place of each event, and of a program with lines these too."""
+    show = TOP / "tools/show.py"
+    for program, path in ((tests.path("planned.elf"), tests.path("planned.sim")), (tests.path("planned.elf"), tests.path("alone.report"))):
+        held = data_of(tests.run(show, path, "--page", "--program", program)[1])
+        wanted = [MADE[name] for name in ("lock", "set", "read", "add", "open")]
+        found = [[held["places"][address][2] for _, address in thread["at"]] for thread in held["threads"]]
+        # instructions before each: two, the test of the lock, none, the addition, none
+        tests.check(f"events of {path.name}", [found, [[count for count, _ in thread["at"]] for thread in held["threads"]]], [[wanted] * 2, [[2, 4, 5, 7, 8]] * 2])
+        tests.check("behind the end", [held["places"][thread["pc"].lstrip("0")][::2] for thread in held["threads"]], [["behind", "svc #0"]] * 2)
+    tests.check("without the program", data_of(tests.run(show, path, "--page")[1])["places"], {})
+    # polls have a count and no place, and a handler's first instruction is not the place that it interrupts
+    program, path = tests.path("operations.elf"), tests.report(tests.path("operations.elf"), "sliced", "--slice", 7)
+    thread, = data_of(tests.run(show, path, "--page", "--program", program)[1])["threads"]
+    polls = [count for (count, address), event in zip(thread["at"], thread["journal"]) if event[0] == "poll" and not address]
+    tests.check("polls", polls, list(range(7, thread["count"], 7)))
+    tests.check("other events without a place", [event[0] for (_, address), event in zip(thread["at"], thread["journal"]) if not address and event[0] != "poll"], ["st"])
+    if not shutil.which("aarch64-linux-gnu-as") or not shutil.which("aarch64-linux-gnu-ld"):
+        return
+    source = TOP / "examples/race.s"
+    tests.run("aarch64-linux-gnu-as", "-g", "-march=armv9-a+sme", source, "-o", tests.path("lines.o"))
+    tests.run("aarch64-linux-gnu-ld", "-static", tests.path("lines.o"), "-o", tests.path("lines.elf"))
+    tests.path("lines.sim").write_text(tests.run(tests.smemu, "sim", tests.path("lines.elf"), tests.path("planned.plan"), "--threads", 2, "--cores", 2)[1])
+    held = data_of(tests.run(show, tests.path("lines.sim"), "--page", "--program", tests.path("lines.elf"))[1])
+    texts = source.read_text().splitlines()
+    numbers = [next(at for at, text in enumerate(texts, 1) if text.strip().startswith(MADE[name])) for name in ("lock", "set", "read", "add", "open")]
+    wanted = [["lock", f"race.s:{number}", texts[number - 1].strip()] for number in numbers]
+    tests.check("lines", [[held["places"][address][:2] + held["places"][address][3:] for _, address in thread["at"]] for thread in held["threads"]], [wanted] * 2)
+
+
 def try_all(tests, client):
-    for test in (try_events, try_history, try_faults, try_waiting, try_port):
+    for test in (try_events, try_history, try_faults, try_waiting, try_port, try_page):
         test(tests, client)
     try_editors(tests)
