@@ -1,10 +1,11 @@
-"""Tries what tools/gdb.py says of shared words, of the history, of faults, at a port and in gdb's machine interface: tools/beside_tests.py calls it.
+"""Tries what tools/gdb.py says of shared words, of the history, of faults, at a port and in gdb's machine interface, and the pages of reports with their
+program and of orders: tools/beside_tests.py calls it.
 
 What a thread shares at a count is what a run with that budget reports; where events are made follows from the sources; a fault's signal is the one
 that Linux sends for it, by the number that gdb's protocol has.
 """
+import argparse
 import json
-import os
 import pathlib
 import queue
 import re
@@ -13,6 +14,7 @@ import subprocess
 import sys
 import threading
 
+import outcomes
 import recorded
 import reports
 import shared_words
@@ -356,7 +358,44 @@ def try_page(tests, _):
     tests.check("lines", [[held["places"][address][:2] + held["places"][address][3:] for _, address in thread["at"]] for thread in held["threads"]], [wanted] * 2)
 
 
+def try_orders(tests, _):
+    """An order that is found is a page, of what `sim` makes of its plan; and how far a search is."""
+    script, program = TOP / "tools/outcomes.py", tests.path("planned.elf")
+    status, said = tests.run(script, program, "--threads", 2, "--page")
+    names = re.findall(r"(?m)    (planned\.\d)\.plan planned\.\d\.html$", said)
+    tests.check("pages of orders", [status, names], [1, ["planned.1", "planned.2"]])
+    for name in names:
+        held = data_of(tests.path(name + ".html").read_text())
+        written = tests.run(tests.smemu, "sim", program, tests.path(name + ".plan"), "--threads", 2, "--cores", 2)[1]
+        wanted = [line.split()[1:] for line in written.splitlines() if line.startswith("h ")]
+        tests.check(f"the history of {name}", [[str(thread), kind, str(place), *(it.zfill(16) for it in values)] for thread, kind, place, *values in held["history"]], wanted)
+        tests.check(f"the places of {name}", all(address for thread in held["threads"] for _, address in thread["at"]), True)
+    kept = tests.assemble("kept", (TOP / "examples/race.s").read_text().replace("    stlr xzr, [x2] ", "    nop "))
+    said = tests.run(script, kept, "--threads", 2, "--page")[1]
+    held = [data_of(tests.path(f"kept.{at}.html").read_text()) for at in range(1, said.count(".html") + 1)]
+    tests.check("an order without an end", ["no end" in said, [any(thread["at"] for thread in it["threads"]) for it in held][-1]], [True, False])
+    tests.check("a page without a name", tests.run(script, program, "--threads", 2, "--page", "--plans", "")[0], 2)
+    try_progress(tests, program)
+
+
+def try_progress(tests, program):
+    """A search says how many states it has, how many are left of the bound, and how many orders go on."""
+    told, kept = [], outcomes.progress.Progress
+    outcomes.progress.Progress = lambda: argparse.Namespace(show=told.append, clear=lambda: None)
+    options = dict.fromkeys(("vl", "svl", "slice", "budget", "switches"))
+    for most, states in ((20000, 62), (30, 30)):
+        told.clear()
+        words = argparse.Namespace(program=program, threads=2, cores=2, states=most, jobs=2, show=["words"], **options)
+        search, is_cut = outcomes.look(words)
+        form = r"states (\d+), (\d+) left of --states; orders that go on: (\d+) with (\d+) changes? of thread, (\d+) with (\d+); outcomes (\d+)"
+        found = [[int(it) for it in re.fullmatch(form, text).groups()] for text in told]
+        tests.check(f"how far, of {most}", [all(one + left == most and less + 1 == more for one, left, _, less, _, more, _ in found), found == sorted(found, key=lambda it: (it[3], it[0])),
+                                            len(search.nodes), is_cut], [True, True, states, most == 30])
+        tests.check(f"orders go on, of {most}", max(it[2] for it in found) > 0 and max(it[4] for it in found) > 0, True)
+    outcomes.progress.Progress = kept
+
+
 def try_all(tests, client):
-    for test in (try_events, try_history, try_faults, try_waiting, try_port, try_page):
+    for test in (try_events, try_history, try_faults, try_waiting, try_port, try_page, try_orders):
         test(tests, client)
     try_editors(tests)

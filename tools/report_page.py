@@ -98,10 +98,10 @@ def first_thread(reports):
     return next((thread.number for thread in reports[-1].threads if thread.stop.status != 0), 0)
 
 
-def page(reports, names, lines, size, how, thread, found=(None, None), title=None):
+def page(reports, names, lines, size, how, thread, found=(None, None), title=None, is_order=False):
     """The file, for one report or two with their names, and the lines of what differs. Size, how and thread are what is chosen at first; `found` is what
-    is known of each report's program, or None, and a title stands in the place of the names."""
-    chosen = {"thread": first_thread(reports) if thread is None else thread, "size": size, "how": how}
+    is known of each report's program, or None, a title stands in the place of the names, and of an order the events come first."""
+    chosen = {"thread": first_thread(reports) if thread is None else thread, "size": size, "how": how, "isOrder": is_order}
     held = json.dumps({"names": names, "first": chosen, "reports": [report_data(*both) for both in zip(reports, found)]}, separators=(",", ":"))
     # no text of a report may end the element
     held = held.replace("<", "\\u003c")

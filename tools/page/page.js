@@ -403,12 +403,30 @@ function events() {
   return section;
 }
 
+// of a history the words with the most events, as many as the page has room for, and after each event their digits
+function wordColumns(report, found) {
+  const all = report.history ? found.events.filter(event => AFTER[event[1]]).map(event => event[2]) : [], counts = {};
+  for (const word of all) counts[word] = (counts[word] || 0) + 1;
+  const isNarrow = document.body.clientWidth < 600, numbers = Object.keys(counts).map(Number);
+  const most = isNarrow && numbers.length > 2 ? 0 : 8;
+  const words = numbers.sort((one, two) => counts[two] - counts[one] || one - two).slice(0, most).sort((one, two) => one - two);
+  const now = {}, rows = found.events.map(([, ...event]) => {
+    Object.assign(now, wordsAfter([event]));
+    return words.map(word => now[word] || "0".repeat(16));
+  });
+  return {words, rows};
+}
+
 // a row for each event, or for the events of one number, with a column for each thread
 function eventTable(report, found, first, count) {
-  const rows = [...Array(count).keys()].map(() => report.threads.map(() => null));
+  const rows = [...Array(count).keys()].map(() => report.threads.map(() => null)), beside = wordColumns(report, found);
   for (const event of found.events) {
     if (event[6] >= first && event[6] < first + count) rows[event[6] - first][event[0]] = event;
   }
+  const word = (digits, at, number) => {
+    const before = number ? beside.rows[number - 1][at] : "0".repeat(16);
+    return node("td", {class: "word" + (digits === before ? " dim" : ""), title: `0x${digits}`}, text64(digits));
+  };
   const cell = event => {
     if (!event) return node("td", {});
     const place = placeOf(event), at = {thread: event[0], number: event[6]}, line = place && place.line || [];
@@ -419,8 +437,9 @@ function eventTable(report, found, first, count) {
     if (line[3] || line[2]) made.append(node("div", {class: "source", title: line[2]}, line[3] || line[2]));
     return made;
   };
-  return node("table", {class: "lanes"}, node("tr", {}, node("th", {}, "event"), ...report.threads.map((_, thread) => node("th", {}, `thread ${thread}`))),
-    ...rows.map((row, at) => node("tr", {}, node("td", {class: "dim"}, String(first + at)), ...row.map(cell))));
+  const heads = ["event", ...beside.words.map(number => `word ${number}`), ...report.threads.map((_, thread) => `thread ${thread}`)];
+  return node("table", {class: "lanes"}, node("tr", {}, ...heads.map(name => node("th", {}, name))), ...rows.map((row, at) => node("tr", {},
+    node("td", {class: "dim"}, String(first + at)), ...(beside.rows[first + at] || []).map((digits, column) => word(digits, column, first + at)), ...row.map(cell))));
 }
 
 // ---- the page
@@ -441,10 +460,10 @@ function show() {
     : [node("p", {}, "this report has no such thread")];
   const shared = words(), rest = events(), all = [...parts, shared, rest].filter(it => it !== null);
   const zero = all.map(it => it.zero).filter(Boolean), empty = [...all.map(it => it.said), zero.length && `all zero: ${zero.join(", ")}`].filter(Boolean);
-  const held = node("div", {id: "words"}, ...[shared].filter(isDrawn));
-  const [first, ...others] = parts.filter(isDrawn);
-  document.getElementById("panel").replaceChildren(choices, first, ...(empty.length ? [node("section", {id: "empty", class: "dim"}, empty.join("; "))] : []),
-    ...others, held, ...[rest].filter(isDrawn));
+  const held = node("div", {id: "words"}, ...[shared].filter(isDrawn)), made = [rest].filter(isDrawn);
+  const line = empty.length ? [node("section", {id: "empty", class: "dim"}, empty.join("; "))] : [];
+  const [first, ...others] = parts.filter(isDrawn), own = [first, ...line, ...others];
+  document.getElementById("panel").replaceChildren(...(state.isOrder ? [...made, held, choices, ...own] : [choices, ...own, held, ...made]));
 }
 
 for (const row of document.querySelectorAll("#threads tbody tr")) {
