@@ -326,8 +326,10 @@ class Session:
 
     def remove(self, rest):
         kind, address, length = rest.split(";")[0].split(",")
-        self.breakpoints.discard(int(address, 16) if kind in "01" else None)
-        self.watchpoints.discard((int(address, 16), int(length, 16)))
+        if kind in "01":
+            self.breakpoints.discard(int(address, 16))
+        elif kind == "2":
+            self.watchpoints.discard((int(address, 16), int(length, 16)))
         return "OK" if kind in "012" else ""
 
     def leave(self, _):
