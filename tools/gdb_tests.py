@@ -13,6 +13,7 @@ import shutil
 import subprocess
 import sys
 import threading
+import time
 
 import outcomes
 import recorded
@@ -395,7 +396,38 @@ def try_progress(tests, program):
     outcomes.progress.Progress = kept
 
 
+# what gdb is asked of a fault over QEMU and over a record; QEMU in user mode does not check the alignment of SP, nor know of shared words and of ZA
+ALIKE = ("ptype $z0", "ptype $z31.b", "whatis $z0.b.u", "whatis $z0.q.u", "whatis $z0.s.f", "whatis $p0", "whatis $ffr", "whatis $vg", "print $vg", "print $z0.b.u[31]", "continue")
+CHECKED = ("data", "fetch", "pcalign", "align", "breakpoint", "undefined")
+
+
+def try_beside_qemu(tests):
+    """gdb says of a fault, and of the names and types of vectors, what it says over QEMU, where that is there."""
+    if not all(map(shutil.which, ("qemu-aarch64", "gdb-multiarch", "aarch64-linux-gnu-as", "aarch64-linux-gnu-ld"))):
+        return
+    asked, socket = [it for line in ALIKE for it in ("-ex", line)], tests.path("qemu.socket")
+    for name, body, _ in FAULTS:
+        if name not in CHECKED:
+            continue
+        tests.path("both.s").write_text(f"    .text\n    .global _start\n_start:\n    {body}\n")
+        tests.run("aarch64-linux-gnu-as", "-march=armv9-a+sme", tests.path("both.s"), "-o", tests.path("both.o"))
+        tests.run("aarch64-linux-gnu-ld", "-static", tests.path("both.o"), "-o", tests.path("both.elf"))
+        path = tests.report(tests.path("both.elf"), "both", "--vl", 256, "--svl", 256)
+        qemu = subprocess.Popen(["qemu-aarch64", "-cpu", "max,sve-default-vector-length=32", "-g", socket, tests.path("both.elf")], stderr=subprocess.DEVNULL)
+        while not socket.exists() and qemu.poll() is None:
+            time.sleep(0.02)
+        said = []
+        for target in (socket, f"| {sys.executable} {GDB} both.elf {path}"):
+            text = tests.run("gdb-multiarch", "-q", "-nx", "-batch", "-ex", f"target remote {target}", *asked, "both.elf")[1]
+            said.append([line for line in text.splitlines() if re.match(r"type|\$|Program|    union|0x", line)])
+        qemu.kill()
+        qemu.wait()
+        socket.unlink(missing_ok=True)
+        tests.check(f"{name}, beside QEMU", [said[1], len(said[0]) > len(ALIKE)], [said[0], True])
+
+
 def try_all(tests, client):
     for test in (try_events, try_history, try_faults, try_waiting, try_port, try_page, try_orders):
         test(tests, client)
     try_editors(tests)
+    try_beside_qemu(tests)
