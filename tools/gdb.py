@@ -4,9 +4,10 @@
     tools/gdb.py PROGRAM REPORT [THREAD] [--port N]
 
 At a terminal it starts gdb, connected; else it is the other end of `target remote | tools/gdb.py PROGRAM REPORT` in a gdb that knows AArch64.
-With --port it waits for one gdb at that port of this machine, `target remote :N`; 0 is a port that is free, which is told.
-THREAD is the thread of the report that is looked at first, 0 where it is not given. REPORT may be what `sim` writes, which has a history besides.
-What gdb would write, registers and memory, is refused. SMEMU may name the emulator, GDB gdb (gdb-multiarch where it is not set).
+With --port it waits for one gdb at that port of this machine, `target remote :N`; 0 is a free one,
+which is told. THREAD is the thread of the report that is looked at first, 0 where it is not given.
+REPORT may be what `sim` writes, which has a history besides. What gdb would write, registers and
+memory, is refused. SMEMU may name the emulator, GDB gdb (gdb-multiarch where it is not set).
 docs/GDB.md shows a session.
 """
 import argparse
@@ -32,15 +33,22 @@ import shared_words
 
 FEATURES = "PacketSize=40000;qXfer:features:read+;qXfer:threads:read-;ReverseStep+;ReverseContinue+;swbreak+;QStartNoAckMode+"
 BREAKPOINT, INTERRUPTED, WATCHED_STOP = 5, 2, 0
-# the signals that Linux sends for what stops a thread, by gdb's numbers: SIGILL, SIGTRAP, SIGBUS, SIGSEGV
-FAULTS = {"undefined": 4, "illegalstreaming": 4, "notstreaming": 4, "zainactive": 4, "breakpoint": 5, "pcalign": 10, "spalign": 10, "align": 10,
-          "shared": 10, "fetch": 11, "data": 11, "badframe": 11}
+# the signals that Linux sends for what stops a thread, by gdb's numbers
+SIGILL, SIGTRAP, SIGBUS, SIGSEGV = 4, 5, 10, 11
+FAULTS = {
+    "undefined": SIGILL, "illegalstreaming": SIGILL, "notstreaming": SIGILL, "zainactive": SIGILL,
+    "breakpoint": SIGTRAP, "pcalign": SIGBUS, "spalign": SIGBUS, "align": SIGBUS, "shared": SIGBUS,
+    "fetch": SIGSEGV, "data": SIGSEGV, "badframe": SIGSEGV,
+}
 # the first lines of a report, or of what `sim` writes
-HEAD = re.compile(rb"(?:skip [^\n]*\n)*smemu-report \d+\noptions vl=(\d+) svl=(\d+) slice=\d+ budget=\d+ threads=(\d+)\n")
+HEAD = re.compile(rb"(?:skip [^\n]*\n)*smemu-report \d+\n"
+                  rb"options vl=(\d+) svl=(\d+) slice=\d+ budget=\d+ threads=(\d+)\n")
 NOT_CHANGED = "E.a record is not changed"
-NO_READS = "gdb.py: watchpoints for reads (rwatch, awatch) are not there: delete it, and no move fails for it"
+NO_READS = ("gdb.py: watchpoints for reads (rwatch, awatch) are not there: "
+            "delete it, and no move fails for it")
 SHARED_SAID = "shared words have their value after the thread's last event: monitor shared"
-NO_HISTORY = "there is no order of the threads' events in a report: what sim writes of a plan has one"
+NO_HISTORY = ("there is no order of the threads' events in a report: "
+              "what sim writes of a plan has one")
 WATCHED = ("za", "slice", "mem")
 MOVES = ("goto", "step", "back", "break")
 HELP = """monitor LINE           a line of a script of debug, at this count: where, regs, za, slice s 0 v 3, mem 0x404000 64
@@ -48,7 +56,7 @@ monitor goto N         goes to count N (so do step N, back N and break ADDRESS);
 monitor watch za       continue and reverse-continue stop where ZA changes; so with slice .., mem .., x 3
 monitor unwatch        they stop there no longer
 monitor shared         the shared words that are not zero, as they are in memory here
-monitor event N        each thread goes to where it is after N events of the history; then: maintenance flush register-cache
+monitor event N        each thread goes to where it is after N events of the history; then the same
 """
 # what a gdb that this starts is told besides where to connect
 COMMANDS = pathlib.Path(__file__).resolve().parent / "gdbinit"
@@ -59,7 +67,7 @@ class Closed(Exception):
 
 
 class Unread(Exception):
-    """The emulator has refused the program, the report or the thread: its own exception is the value."""
+    """The emulator has refused the files or the thread: its own exception is the value."""
 
 
 class Wire:
@@ -110,7 +118,8 @@ class Wire:
 
 
 class Place:
-    """A thread of the report, and the count at which gdb sees it; of a place of the history the number of events before it, until the thread moves."""
+    """A thread of the report, and the count at which gdb sees it; at a place of the history the
+    number of events before it, until the thread moves."""
 
     def __init__(self, thread):
         self.thread, self.count = thread, 0
@@ -148,7 +157,8 @@ class Session:
     def __init__(self, program, report, first, wire=None):
         self.program, self.report, self.wire = program, report, wire
         # gdb is answered while the emulator reads the report
-        self.first, self.load = first, concurrent.futures.ThreadPoolExecutor(1).submit(recorded.Recorded, program, report, first)
+        pool = concurrent.futures.ThreadPoolExecutor(1)
+        self.first, self.load = first, pool.submit(recorded.Recorded, program, report, first)
         self.places, self.events = {}, {}
         self.chosen = self.selected = first
         self.locked = None
@@ -166,7 +176,8 @@ class Session:
 
     @functools.cached_property
     def head(self):
-        """The vector lengths of the report in bytes, and its threads, without the emulator where its first lines say so."""
+        """The vector lengths of the report in bytes, and its threads, without the emulator where
+        its first lines say so."""
         try:
             with open(self.report, "rb") as file:
                 found = HEAD.match(file.read(1 << 16))
@@ -206,7 +217,8 @@ class Session:
     def events_of(self, number):
         if number not in self.events:
             self.shared()
-            self.events[number] = shared_words.Events(self.place(number).thread, self.whole.threads[number].journal)
+            journal = self.whole.threads[number].journal
+            self.events[number] = shared_words.Events(self.place(number).thread, journal)
         return self.events[number]
 
     def here(self):
@@ -223,7 +235,8 @@ class Session:
         self.wire.send("O" + (text + "\n").encode().hex())
 
     def shared_bytes(self, place, address, length):
-        """Bytes of shared words as they are after the thread's last event, up to the first that is not known; after so many of a history where gdb went there."""
+        """Bytes of shared words after the thread's last event, up to the first that is not known;
+        after so many of the history where gdb went there."""
         number = place.thread.block.number
         made = 0 if place.moment is not None else self.events_of(number).made(place.count)
         return self.shared().bytes(address, length, number, made, place.moment)
@@ -354,7 +367,8 @@ class Session:
         return self.stopped("")
 
     def at_the_end(self, place, rest=""):
-        """What stopped the thread: a fault is a signal, as it is elsewhere, and once gdb has passed that on it is the end of the record."""
+        """What stopped the thread: a fault is a signal, as it is elsewhere, and once gdb has passed
+        that on it is the end of the record."""
         stop = place.thread.block.stop
         self.say(f"thread {self.chosen} ends at count {place.thread.end}: stop {end_text(place.thread.block)}")
         number = FAULTS.get(stop.words[1] if stop.name == "raised" else stop.name)
@@ -392,7 +406,7 @@ class Session:
         """The first change from a count on, below another: the count to stop at, the count of the change, what changes, and its address."""
         found = None
         for question, address in self.questions():
-            at = (self.next_of_shared if shared_place(question) else type(thread).next_change)(thread, start, question, limit)
+            at = self.next_change(thread, start, question, limit)
             if at is not None:
                 # gdb itself makes the step over an instruction that changes what it watches
                 found, limit = (at if address is not None else at + 1, at, question, address), at
@@ -402,32 +416,34 @@ class Session:
         """The last change before a count, not below another: as above."""
         found = None
         for question, address in self.questions():
-            at = (self.last_of_shared if shared_place(question) else type(thread).last_change)(thread, start, question, limit)
+            at = self.last_change(thread, start, question, limit)
             if at is not None:
                 found, limit = (at + 1 if address is not None else at, at, question, address), at + 1
         return found
 
-    def changes_shared(self, thread, number, question):
-        """Tells whether an event of a thread is the first after which some shared bytes are others."""
-        address, length = shared_place(question)
-        before, after = (self.shared().bytes(address, length, thread.block.number, made) for made in (number, number + 1))
-        return before != after
-
-    def next_of_shared(self, thread, start, question, limit):
-        """The least count from one on, below another, of an event after which shared bytes are others, or None."""
+    def next_change(self, thread, start, question, limit):
+        """The least count from one on, below another, whose turn changes an answer, or None."""
+        if not shared_place(question):
+            return thread.next_change(start, question, limit)
         events = self.events_of(thread.block.number)
-        numbers = range(events.made(start), len(events.journal))
-        found = next((it for it in numbers if self.changes_shared(thread, it, question)), None)
-        count = None if found is None else events.count_of(found)
+        made = range(events.made(start), len(events.journal))
+        count = self.first_of_shared(thread, question, made)
         return count if count is not None and count < limit else None
 
-    def last_of_shared(self, thread, start, question, limit):
-        """The greatest count below one, not below another, of such an event, or None."""
-        events = self.events_of(thread.block.number)
-        numbers = range(events.made(start) - 1, -1, -1)
-        found = next((it for it in numbers if self.changes_shared(thread, it, question)), None)
-        count = None if found is None else events.count_of(found)
+    def last_change(self, thread, start, question, limit):
+        """The greatest count below one, not below another, whose turn does, or None."""
+        if not shared_place(question):
+            return thread.last_change(start, question, limit)
+        made = range(self.events_of(thread.block.number).made(start) - 1, -1, -1)
+        count = self.first_of_shared(thread, question, made)
         return count if count is not None and count >= limit else None
+
+    def first_of_shared(self, thread, question, numbers):
+        """The count of the first of a thread's events after which shared bytes are others."""
+        number, place = thread.block.number, shared_place(question)
+        value = lambda made: self.shared().bytes(*place, number, made)
+        found = next((it for it in numbers if value(it) != value(it + 1)), None)
+        return None if found is None else self.events_of(number).count_of(found)
 
     def at_a_change(self, place, stop, count, question, address):
         place.count = stop
@@ -472,13 +488,16 @@ class Session:
         if place.moment is not None:
             yield f"after event {place.moment} of the history"
         elif words.history is not None:
-            yield f"after event {words.moment(number, made)} of the history, the last of thread {number} up to count {place.count}"
+            yield (f"after event {words.moment(number, made)} of the history, "
+                   f"the last of thread {number} up to count {place.count}")
         else:
-            yield f"after {made} events of thread {number}, of which alone it is known when they were"
+            yield (f"after {made} events of thread {number}, "
+                   "of which alone it is known when they were")
         for word in range(shared_words.WORDS):
             value = words.word(number, word, made, place.moment)
             if value is None:
-                yield f"w {word} is not known: another thread changes it, and this one has not looked yet"
+                yield (f"w {word} is not known: another thread changes it, "
+                       "and this one has not looked yet")
             elif value:
                 yield f"w {word} {value:016x}"
 
@@ -487,18 +506,21 @@ class Session:
         words = self.shared()
         if words.history is None:
             return [NO_HISTORY]
-        if not re.fullmatch(r"\d{1,9}", rest) or int(rest) > len(words.history):
-            return [f"the history has {len(words.history)} events: monitor event 0 to {len(words.history)}"]
+        length = len(words.history)
+        if not re.fullmatch(r"\d{1,9}", rest) or int(rest) > length:
+            return [f"the history has {length} events: monitor event 0 to {length}"]
         number, lines = int(rest), []
         if number:
             thread, event = words.history[number - 1]
-            lines.append(f"event {number} of {len(words.history)}: thread {thread} {event}")
+            lines.append(f"event {number} of {length}: thread {thread} {event}")
         for thread in range(self.threads):
             place, events = self.place(thread), self.events_of(thread)
-            made = bisect.bisect_right(words.own[thread], number)
-            last = made - 1
-            # the instruction after a poll is made with it
-            place.count = events.count_of(last) + (events.journal[last].kind != "poll") if made else 0
+            last = bisect.bisect_right(words.own[thread], number) - 1
+            place.count = 0
+            if last >= 0:
+                # the instruction after a poll is made with it
+                is_poll = events.journal[last].kind == "poll"
+                place.count = events.count_of(last) + (not is_poll)
             place.moment = number
             lines.append(f"thread {thread} {place}")
         return lines
@@ -519,7 +541,8 @@ ANSWERS = (
     ("?", Session.why), ("qfThreadInfo", Session.all_threads), ("qsThreadInfo", Session.no_more_threads),
     ("qThreadExtraInfo,", Session.thread_text), ("T", Session.is_thread), ("qC", Session.current), ("Hg", Session.choose), ("Hc", Session.lock),
     ("qAttached", Session.attached), ("g", Session.registers), ("p", Session.register), ("m", Session.memory), ("Z", Session.insert),
-    ("z", Session.remove), ("s", Session.step), ("c", Session.go_on), ("S", Session.step), ("C", Session.go_on), ("bs", Session.step_back), ("bc", Session.go_back),
+    ("z", Session.remove), ("s", Session.step), ("c", Session.go_on), ("S", Session.step),
+    ("C", Session.go_on), ("bs", Session.step_back), ("bc", Session.go_back),
     ("qRcmd,", Session.monitor), ("G", Session.refuse), ("P", Session.refuse), ("M", Session.refuse), ("X", Session.refuse),
     ("D", Session.leave), ("k", Session.leave),
 )
@@ -556,7 +579,8 @@ def start_gdb(words):
     server = [sys.executable, os.path.abspath(__file__), words.program, words.report, str(words.thread)]
     # it has no name, so it goes with gdb
     commands = tempfile.TemporaryFile()
-    commands.write(f"{COMMANDS.read_text()}target remote | {' '.join(map(shlex.quote, server))}\n".encode())
+    connection = f"target remote | {' '.join(map(shlex.quote, server))}\n"
+    commands.write((COMMANDS.read_text() + connection).encode())
     commands.flush()
     os.set_inheritable(commands.fileno(), True)
     os.execv(gdb, [gdb, "-q", words.program, "-x", f"/dev/fd/{commands.fileno()}"])
@@ -575,7 +599,8 @@ def arguments():
     parser.add_argument("program", metavar="PROGRAM")
     parser.add_argument("report", metavar="REPORT")
     parser.add_argument("thread", metavar="THREAD", type=int, nargs="?", default=0)
-    parser.add_argument("--port", type=int, metavar="N", help="wait for one gdb at this port of this machine; 0: one that is free")
+    parser.add_argument("--port", type=int, metavar="N",
+                        help="wait for one gdb at this port of this machine; 0: a free one")
     words = parser.parse_args()
     if words.port is not None and not 0 <= words.port < 1 << 16:
         parser.error("--port is 0 to 65535")

@@ -7,8 +7,11 @@ Vectors, predicates and vg have the names and types that gdb has for SVE, svg th
 SIZES = {"b": 1, "h": 2, "s": 4, "d": 8, "q": 16}
 # of each size of elements what they may be: floating point, unsigned and signed numbers
 KINDS = {
-    "q": {"u": "uint128", "s": "int128"}, "d": {"f": "ieee_double", "u": "uint64", "s": "int64"}, "s": {"f": "ieee_single", "u": "uint32", "s": "int32"},
-    "h": {"f": "ieee_half", "u": "uint16", "s": "int16"}, "b": {"u": "uint8", "s": "int8"},
+    "q": {"u": "uint128", "s": "int128"},
+    "d": {"f": "ieee_double", "u": "uint64", "s": "int64"},
+    "s": {"f": "ieee_single", "u": "uint32", "s": "int32"},
+    "h": {"f": "ieee_half", "u": "uint16", "s": "int16"},
+    "b": {"u": "uint8", "s": "int8"},
 }
 FLAGS = {"N": 31, "Z": 30, "C": 29, "V": 28}
 # the registers that gdb gets at each stop; the others it asks for when they are wanted
@@ -72,9 +75,13 @@ def of_the_thread():
 
 def vectors(length):
     names = [f"p {n}" for n in range(16)] + ["ffr"]
-    found = [Register(f"z{n}", 8 * length, "svev", "vector", bytes_of(f"z {n}", length)) for n in range(32)]
-    found += [Register(name.replace(" ", ""), length, "svep", "vector", bytes_of(name, length // 8)) for name in names]
-    return [*found, Register("vg", 64, "int", "vector", granules), Register("svg", 64, "int", "vector", lambda thread, count: (thread.rows // 8).to_bytes(8, "little"))]
+    found = [Register(f"z{n}", 8 * length, "svev", "vector", bytes_of(f"z {n}", length))
+             for n in range(32)]
+    found += [Register(name.replace(" ", ""), length, "svep", "vector", bytes_of(name, length // 8))
+              for name in names]
+    streaming = lambda thread, count: (thread.rows // 8).to_bytes(8, "little")
+    return [*found, Register("vg", 64, "int", "vector", granules),
+            Register("svg", 64, "int", "vector", streaming)]
 
 
 def of_za(rows):
@@ -88,14 +95,17 @@ def vector_types(name, length):
     text, sizes = "", ""
     for letter, size in reversed(SIZES.items()):
         kinds = KINDS[letter]
-        text += "".join(f'<vector id="{name}{letter}{kind}" type="{it}" count="{length // size}"/>' for kind, it in kinds.items())
-        text += f'<union id="{name}n{letter}">' + "".join(f'<field name="{kind}" type="{name}{letter}{kind}"/>' for kind in kinds) + "</union>"
+        text += "".join(f'<vector id="{name}{letter}{kind}" type="{it}" count="{length // size}"/>'
+                        for kind, it in kinds.items())
+        fields = (f'<field name="{kind}" type="{name}{letter}{kind}"/>' for kind in kinds)
+        text += f'<union id="{name}n{letter}">{"".join(fields)}</union>'
         sizes += f'<field name="{letter}" type="{name}n{letter}"/>'
     return f'{text}<union id="{name}">{sizes}</union>'
 
 
 def tile_types(rows):
-    return "".join(f'<vector id="tile_{letter}" type="zav{letter}u" count="{rows // size}"/>' for letter, size in SIZES.items())
+    return "".join(f'<vector id="tile_{letter}" type="zav{letter}u" count="{rows // size}"/>'
+                   for letter, size in SIZES.items())
 
 
 def flag_type():
@@ -107,10 +117,11 @@ class Description:
     """All registers in gdb's order, and the text that says so."""
 
     def __init__(self, longest, rows):
+        predicate = f'<vector id="svep" type="uint8" count="{longest // 8}"/>'
         features = [
             ("org.gnu.gdb.aarch64.core", flag_type(), core()),
             ("org.smemu.thread", "", of_the_thread()),
-            ("org.smemu.vectors", vector_types("svev", longest) + f'<vector id="svep" type="uint8" count="{longest // 8}"/>', vectors(longest)),
+            ("org.smemu.vectors", vector_types("svev", longest) + predicate, vectors(longest)),
             ("org.smemu.za", vector_types("zav", rows) + tile_types(rows), of_za(rows)),
         ]
         self.registers = [register for _, _, registers in features for register in registers]

@@ -11,8 +11,9 @@ for `debug`, `tools/gdb.py` and others, PREFIX.1.plan, PREFIX.1.report and so on
 
 WHAT is exit (how each thread stops), words (the shared words that are not zero), `word N`, output, or a line of a report by its name, as `x 3`, za;
 exit and words where nothing is said. --switches N tries orders with at most N changes; --states N looks at so many states at most (20000).
---order shows of each outcome the operations of an order that makes it: thread, place, instruction, and what it found or left; --page writes it as a page,
-PREFIX.1.html and so on, with a lane for each thread, the lines of C, and the shared words after each operation.
+--order shows of each outcome the operations of an order that makes it: thread, place, instruction, and what it found or left.
+--page writes such an order as a page, PREFIX.1.html and so on: lanes of the threads with their
+lines of C, and the shared words after each operation.
 --move tries each plan again with a thread moved to another core, one place at a time: nothing may change.
 --signal S lets signal S, which the program posts, come at each place in turn, and says whether all is after the handler as it was before.
 Both try at most --most N places (1000). The status is 1 where there is more than one outcome, a move changes something or a signal does; else it is 3
@@ -132,8 +133,10 @@ class Search:
 
     def how_far(self):
         """How much was looked at, what is left of the bound, and how many orders go on."""
-        return (f"states {len(self.nodes)}, {self.most - len(self.nodes)} left of --states; orders that go on: {self.now} with {changes(self.level)}, "
-                f"{self.later} with {self.level + 1}; outcomes {len(self.outcomes)}")
+        number, level = len(self.nodes), self.level
+        return (f"states {number}, {self.most - number} left of --states; "
+                f"orders that go on: {self.now} with {changes(level)}, {self.later} with {level + 1}; "
+                f"outcomes {len(self.outcomes)}")
 
     # orders
 
@@ -356,11 +359,12 @@ def event_of(line):
 
 
 def write_page(path, seen, text, words):
-    """Writes an order as a page, with the places of its operations where all threads have stopped."""
+    """Writes an order as a page, with the places of its operations where all threads stop."""
     report = reports.parse(seen.text)
     found = report_places.Found(words.program, path.with_suffix(".report"), report)
     title = f"{pathlib.Path(words.program).name}: {text}"
-    path.write_text(report_page.page([report], [path.stem], None, "s", "signed", None, [found], title, True))
+    chosen = {"size": "s", "how": "signed", "isOrder": True}
+    path.write_text(report_page.page([report], [path.stem], None, chosen, [found], title))
 
 
 def show_outcomes(search, is_cut, words):

@@ -72,7 +72,8 @@ def constant_pages(program):
 
 
 class Plain:
-    """The file of a report; of what `sim` writes, which has more before it and after it, the report alone, for as long as this is there."""
+    """The file of a report. Of what `sim` writes, which has more before it and after it, it is one
+    with the report alone, for as long as this is there."""
 
     def __init__(self, path):
         self.path, self.file = str(path), None
@@ -95,7 +96,8 @@ def threads_of(program, report_file):
 
 
 class Recorded:
-    """A thread of a report, or of what `sim` writes. Refused where the emulator refuses one of the files, the thread or the record.
+    """A thread of a report, or of what `sim` writes. Refused where the emulator refuses one of the
+    files, the thread or the record.
 
     While a call waits, `is_over` may tell that nobody waits for it any longer; the call then ends by Interrupted.
     """

@@ -1,7 +1,8 @@
 """Makes one HTML file of a report, or of two with what differs: `tools/show.py --page` calls it.
 
-What `--program` adds is found by report_places.py. The table of threads and the list of what differs stand in the file as they are; all else is drawn from the reports in it by page/page.js.
-Nothing is fetched from elsewhere.
+The table of threads and the list of what differs stand in the file as they are; all else is drawn
+from the reports in it by page/page.js, with what report_places.py finds of the program. Nothing is
+fetched from elsewhere.
 """
 import html
 import json
@@ -25,7 +26,9 @@ def event_list(event):
 def thread_data(report, thread, found):
     """What the page draws of a thread. Numbers of 64 bits are digits, since those of a page end at 2^53."""
     return {
-        "stop": thread.stop.meaning, "failed": thread.stop.status != 0, "at": found and found.events.get(thread.number), "count": thread.count, "turns": thread.turns, "x": [f"{value:016x}" for value in thread.x],
+        "stop": thread.stop.meaning, "failed": thread.stop.status != 0,
+        "at": found and found.events.get(thread.number),
+        "count": thread.count, "turns": thread.turns, "x": [f"{value:016x}" for value in thread.x],
         **{name: f"{getattr(thread, name):016x}" for name in ("pc", "sp", "tpidr", "tpidr2", "held")},
         "nzcv": thread.nzcv, "svcr": thread.svcr, "mask": f"{thread.mask:016x}" if report.version > 1 else None, "depth": thread.depth,
         "polled": int(thread.polled), "length": report.length(thread), "z": sparse(thread.z), "p": sparse(thread.p),
@@ -40,7 +43,8 @@ def report_data(report, found):
     """What the page draws of a report, with what is known of its program or None."""
     history = report.history
     return {
-        "threads": [thread_data(report, thread, found) for thread in report.threads], "places": found.lines if found else {},
+        "threads": [thread_data(report, thread, found) for thread in report.threads],
+        "places": found.lines if found else {},
         "shared": {number: f"{value:016x}" for number, value in report.shared.items()},
         "pending": {number: f"{value:016x}" for number, value in report.pending.items()},
         "history": history and [[entry.thread, *event_list(entry.event)] for entry in history[:MOST_EVENTS]],
@@ -98,11 +102,13 @@ def first_thread(reports):
     return next((thread.number for thread in reports[-1].threads if thread.stop.status != 0), 0)
 
 
-def page(reports, names, lines, size, how, thread, found=(None, None), title=None, is_order=False):
-    """The file, for one report or two with their names, and the lines of what differs. Size, how and thread are what is chosen at first; `found` is what
-    is known of each report's program, or None, a title stands in the place of the names, and of an order the events come first."""
-    chosen = {"thread": first_thread(reports) if thread is None else thread, "size": size, "how": how, "isOrder": is_order}
-    held = json.dumps({"names": names, "first": chosen, "reports": [report_data(*both) for both in zip(reports, found)]}, separators=(",", ":"))
+def page(reports, names, lines, chosen, found, title=None):
+    """The file, for one report or two with their names, and the lines of what differs. `chosen` is
+    what is chosen at first, `found` what is known of each report's program, or None; a title stands
+    in the place of the names."""
+    drawn = [report_data(*both) for both in zip(reports, found)]
+    first = {"thread": first_thread(reports), **chosen}
+    held = json.dumps({"names": names, "first": first, "reports": drawn}, separators=(",", ":"))
     # no text of a report may end the element
     held = held.replace("<", "\\u003c")
     title = html.escape(title or " and ".join(names))

@@ -1,26 +1,37 @@
-"""Says at which counts a thread of a report made its events, and what the words that threads share were then.
+"""Says at which counts a thread of a report made its events, and what shared words were then.
 
-A report says which events a thread made and in which order, not when. Polls come at multiples of the slice, so what stands between two of them in the
-journal was made by as many instructions: by those that reach a shared word, as their registers say, and by posts. docs/REPORT.md has the events.
+A report says which events a thread made and in which order, not when. Polls come at multiples of
+the slice, so what stands between two of them in the journal was made by as many instructions: by
+those that reach a shared word, as their registers say, and by posts. docs/REPORT.md has the events.
 """
 import bisect
 import collections
 import re
 
+import emulator
 import recorded
 import traced
 
 FIRST, WORDS, SIZE = 0x7F0000000000, 512, 8
 # instructions that can be an operation on a shared word, and a call
-OPERATION = re.compile(r"(?:ldu?r|ldar|stu?r|stlr|(?:swp|cas|ld(?:add|clr|eor|set|umax|umin))(?:a|l|al)?) (?:x\d+|xzr), |svc ")
+OPERATION = re.compile(
+    r"(?:ldu?r|ldar|stu?r|stlr|(?:swp|cas|ld(?:add|clr|eor|set|umax|umin))(?:a|l|al)?) "
+    r"(?:x\d+|xzr), |svc ")
 CALL_POST, POSTED = 131, range(1, 63)
-# so many counts are gone over in one call, and the bytes of registers that one call is to answer at most
+# the counts that one call goes over, and the bytes of registers that one is to answer at most
 MOST_COUNTS, MOST_BYTES = 1 << 17, 32_000_000
 # the word after each operation, of the word before it and the values a and b
 AFTER = {
-    "ld": lambda word, a, b: word, "st": lambda word, a, b: a, "swp": lambda word, a, b: a, "add": lambda word, a, b: (word + a) % 2 ** 64,
-    "clr": lambda word, a, b: word & ~a, "eor": lambda word, a, b: word ^ a, "set": lambda word, a, b: word | a,
-    "umax": lambda word, a, b: max(word, a), "umin": lambda word, a, b: min(word, a), "cas": lambda word, a, b: b if word == a else word,
+    "ld": lambda word, a, b: word,
+    "st": lambda word, a, b: a,
+    "swp": lambda word, a, b: a,
+    "add": lambda word, a, b: (word + a) % 2 ** 64,
+    "clr": lambda word, a, b: word & ~a,
+    "eor": lambda word, a, b: word ^ a,
+    "set": lambda word, a, b: word | a,
+    "umax": lambda word, a, b: max(word, a),
+    "umin": lambda word, a, b: min(word, a),
+    "cas": lambda word, a, b: b if word == a else word,
 }
 
 
@@ -42,11 +53,14 @@ class Registers:
 
     def get(self, name, default):
         start = self.block.find(f"\n{name} ")
-        return default if start < 0 else self.block[start + len(name) + 2:self.block.index("\n", start + 1)]
+        if start < 0:
+            return default
+        return self.block[start + len(name) + 2:self.block.index("\n", start + 1)]
 
 
 class Events:
-    """The events of a thread, with the counts at which they were made: the count at which the instruction that makes one comes next."""
+    """The events of a thread, with the counts at which they were made: those at which the
+    instruction that makes one comes next."""
 
     def __init__(self, thread, journal):
         self.thread, self.journal, self.slice = thread, journal, thread.report.slice
@@ -60,53 +74,63 @@ class Events:
 
     def own(self, part):
         """The numbers of the events in a part, but for the poll."""
-        end = self.starts[part + 1] if part + 1 < len(self.starts) else len(self.journal)
-        return range(self.starts[part] + (part > 0), end)
+        is_last = part + 1 == len(self.starts)
+        return range(self.starts[part] + (part > 0),
+                     len(self.journal) if is_last else self.starts[part + 1])
 
     def learn(self, parts, show=None):
         """Looks for the counts of the events of these parts."""
-        new, size = [it for it in parts if it not in self.known and self.own(it)], max(1, MOST_COUNTS // self.slice)
+        new = [it for it in parts if it not in self.known and self.own(it)]
         self.known.update((it, []) for it in parts if not self.own(it))
+        size = max(1, MOST_COUNTS // self.slice)
         for at in range(0, len(new), size):
             self.learn_some(new[at:at + size])
             if show:
                 show(min(self.thread.end, (new[at] + size) * self.slice))
 
     def learn_some(self, parts):
+        spans = [(it * self.slice, min(self.thread.end, (it + 1) * self.slice)) for it in parts]
         found = collections.defaultdict(list)
-        for count, text, registers in self.operations([(it * self.slice, min(self.thread.end, (it + 1) * self.slice)) for it in parts]):
-            # what stands at a poll may be what a signal interrupts, so it is found by what is missing
+        for count, text, registers in self.operations(spans):
+            # what stands at a poll may be what a signal interrupts: it is found by what is missing
             if (count % self.slice or not count) and self.makes_event(text, registers):
                 found[count // self.slice].append(count)
         for part in parts:
             missing = len(self.own(part)) - len(found[part])
             if missing not in (0, 1 if part else 0):
-                raise ValueError(f"thread {self.thread.block.number}: events of the counts from {part * self.slice} on are not those of its journal")
+                raise emulator.Refused(f"thread {self.thread.block.number}: the events from count "
+                                       f"{part * self.slice} on are not those of the journal", 1)
             self.known[part] = [part * self.slice] * missing + found[part]
 
     def operations(self, spans):
-        """The instructions that can make an event, from counts to below others: count, text and registers."""
-        script = "".join(f"goto {low}\nwhere\n" + "step 1\nwhere\n" * (high - low - 1) for low, high in spans if low < high)
+        """The instructions that can make an event, from counts to below others: count, text and
+        registers."""
+        script = "".join(f"goto {low}\nwhere\n" + "step 1\nwhere\n" * (high - low - 1)
+                         for low, high in spans if low < high)
         found, texts = [], {}
         for line in self.thread.written(script).decode().splitlines():
             end = line.index(" ", 3)
             here = line[end + 1:]
             text = texts.get(here)
             if text is None:
-                text = texts[here] = here.partition(" ")[2] if OPERATION.match(here.partition(" ")[2]) else ""
+                text = here.partition(" ")[2]
+                text = texts[here] = text if OPERATION.match(text) else ""
             if text:
                 found.append((int(line[3:end]), text))
         size = max(1, MOST_BYTES // (4 * self.thread.longest * 17 + 2048))
         for at in range(0, len(found), size):
             part = found[at:at + size]
-            blocks = self.thread.written("".join(f"goto {count}\nregs\n{recorded.EMPTY}\n" for count, _ in part)).decode().split("\n\n")
+            script = "".join(f"goto {count}\nregs\n{recorded.EMPTY}\n" for count, _ in part)
+            blocks = self.thread.written(script).decode().split("\n\n")
             for (count, text), block in zip(part, blocks):
                 yield count, text, Registers(block)
 
     def makes_event(self, text, registers):
+        """Tells whether an instruction is an operation on what threads share."""
         value = lambda name: int(registers.get(name, "0"), 16)
         if text.startswith("svc"):
-            return value("x 8") == CALL_POST and value("x 0") < len(self.thread.report.threads) and value("x 1") in POSTED
+            threads = len(self.thread.report.threads)
+            return value("x 8") == CALL_POST and value("x 0") < threads and value("x 1") in POSTED
         address = traced.address_of(text, registers)
         return address is not None and is_shared(address)
 
@@ -142,25 +166,29 @@ class Track:
                 values.append(after(event))
 
     def last(self, word, made):
-        """How many events were made up to the last one on a word among so many, and the word after it; None where there is none."""
+        """A word after the last event on it among so many, or None where there is none."""
         places, values = self.changes.get(word, ((), ()))
         at = bisect.bisect_right(places, made)
-        return (places[at - 1], values[at - 1]) if at else None
+        return values[at - 1] if at else None
 
 
 class Shared:
-    """The words of a report. What `sim` writes has a history, an order of all events; else each thread knows of its own events alone."""
+    """The words of a report. What `sim` writes has a history, an order of all events; else each
+    thread knows of its own events alone."""
 
     def __init__(self, report):
         self.history = report.history
         self.own = {thread.number: [] for thread in report.threads}
         for at, entry in enumerate(report.history or (), 1):
             self.own[entry.thread].append(at)
-        self.whole = Track(entry.event for entry in report.history) if report.history is not None else None
-        self.tracks = {} if self.whole else {thread.number: Track(thread.journal) for thread in report.threads}
+        self.whole, self.tracks = None, {}
         # the threads that have changed each word, or could have
         self.changed = collections.defaultdict(set)
-        for thread in () if self.whole else report.threads:
+        if report.history is not None:
+            self.whole = Track(entry.event for entry in report.history)
+            return
+        for thread in report.threads:
+            self.tracks[thread.number] = Track(thread.journal)
             for event in thread.journal:
                 if event.kind in AFTER and event.kind != "ld":
                     self.changed[event.place].add(thread.number)
@@ -170,12 +198,15 @@ class Shared:
         return self.own[thread][made - 1] if made else 0
 
     def word(self, thread, number, made, moment=None):
-        """A word after so many events of a thread, or of the history; None where it is not known: another thread may have changed it."""
+        """A word after so many events of a thread, or of the history; None where it is not known,
+        since another thread may have changed it."""
         if self.whole:
-            found = self.whole.last(number, self.moment(thread, made) if moment is None else moment)
-            return found[1] if found else 0
+            moment = self.moment(thread, made) if moment is None else moment
+            return self.whole.last(number, moment) or 0
         found = self.tracks[thread].last(number, made)
-        return found[1] if found else None if self.changed.get(number, set()) - {thread} else 0
+        if found is None and not self.changed.get(number, set()) - {thread}:
+            return 0
+        return found
 
     def bytes(self, address, length, thread, made, moment=None):
         """Bytes of shared words, up to the first that is not known."""

@@ -325,7 +325,8 @@ def parser():
     words.add_argument("--columns", type=part_of, metavar="A-B", help="these columns of tiles")
     words.add_argument("--json", action="store_true", help="all of a report as JSON")
     words.add_argument("--page", action="store_true", help="one report, or two and what differs, as one HTML file")
-    words.add_argument("--program", metavar="PROGRAM", help="with --page: names functions, lines and the places of events")
+    words.add_argument("--program", metavar="PROGRAM",
+                       help="with --page: functions, lines and the places of events")
     return words
 
 
@@ -342,8 +343,11 @@ def write(words, view, report, other):
         print()
     elif words.page:
         both, names = [report, *[other] * bool(other)], [words.report, *[words.other] * bool(other)]
-        first = None if which == "all" or words.thread is None else chosen_threads(report, which)[0].number
-        print(report_page.page(both, names, lines, words.size, words.how, first, [found_of(words.program, *it) for it in zip(names, both)]))
+        chosen = {"size": words.size, "how": words.how}
+        if which != "all" and words.thread is not None:
+            chosen["thread"] = chosen_threads(report, which)[0].number
+        found = [found_of(words.program, *it) for it in zip(names, both)]
+        print(report_page.page(both, names, lines, chosen, found))
     else:
         print("".join(f"{line}\n" for line in (lines if other else shown(report, view, which))), end="")
     return 1 if lines else 0
