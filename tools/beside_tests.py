@@ -49,7 +49,7 @@ class Tests:
     def run(self, *words):
         """The status of a command, and all that it writes."""
         ended = subprocess.run([str(it) for it in words], stdout=subprocess.PIPE, stderr=subprocess.STDOUT, stdin=subprocess.DEVNULL,
-                               env=self.environment, cwd=self.folder, text=True)
+                               env=self.environment, cwd=self.folder, text=True, errors="replace")
         return ended.returncode, ended.stdout
 
     def assemble(self, name, source):
