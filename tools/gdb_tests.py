@@ -476,9 +476,10 @@ def try_orders(tests, _):
         tests.check(f"the places of {name}",
                     all(address for thread in held["threads"] for _, address in thread["at"]),
                     True)
-    kept = tests.assemble("kept",
-                          (TOP / "examples/race.s").read_text().replace("    stlr xzr, [x2] ",
-                                                                        "    nop "))
+    # a lock that is taken by one exchange, and is not opened
+    source = (TOP / "examples/race.s").read_text().replace("ldar x4", "swpa x3, x4")
+    lines = [line for line in source.splitlines(True) if not re.match(r" +stlr x(3|zr),", line)]
+    kept = tests.assemble("kept", "".join(lines))
     said = tests.run(script, kept, "--threads", 2, "--page")[1]
     held = [data_of(tests.path(f"kept.{at}.html").read_text())
             for at in range(1, said.count(".html") + 1)]
@@ -486,6 +487,10 @@ def try_orders(tests, _):
                 ["no end" in said,
                  [any(thread["at"] for thread in it["threads"]) for it in held][-1]],
                 [True, False])
+    plan, written = tests.path(f"kept.{len(held)}.plan"), tests.path("kept.sim")
+    written.write_text(tests.run(tests.smemu, "sim", kept, plan, "--threads", 2, "--cores", 2)[1])
+    tests.check("a record without an end", tests.run(GDB, kept, written),
+                (9, "thread 0 has not stopped, and a record is gone over where all threads have\n"))
     tests.check("a page without a name",
                 tests.run(script, program, "--threads", 2, "--page", "--plans", "")[0], 2)
     try_progress(tests, program)

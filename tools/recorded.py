@@ -32,6 +32,8 @@ CHANGES_ZA = re.compile(r"^([0-9a-f]{16}) [0-9a-f]{8} (?:zero|smst(?:art|op)(?: 
 
 # the lines before the report in what `sim` writes
 SKIPS = re.compile(rb"(?:skip [^\n]*\n)*")
+# a thread that has not stopped, and the status of a report that is none
+RUNNING, NOT_STOPPED = re.compile(rb"^thread (\d+)\nstop none$", re.MULTILINE), 9
 # an event by which a thread was given signals
 SIGNALS = re.compile(rb"^e poll \d+ 0{16} 0{16} (?!0{16})", re.MULTILINE)
 
@@ -82,6 +84,10 @@ class Plain:
         except OSError:
             # the emulator says so
             return
+        running = RUNNING.search(data)
+        if running:
+            raise emulator.Refused(f"thread {running[1].decode()} has not stopped, and a record is "
+                                   "gone over where all threads have", NOT_STOPPED)
         start, end = data.find(b"smemu-report "), data.rfind(b"\nend\nhistory ")
         if start >= 0 and SKIPS.fullmatch(data[:start]) and (start > 0 or end >= 0):
             self.file = tempfile.NamedTemporaryFile(suffix=".report")
