@@ -403,12 +403,14 @@ function events() {
   return section;
 }
 
+const isNarrow = () => document.body.clientWidth < 600;
+
 // of a history the words with the most events, as many as the page has room for, and after each event their digits
 function wordColumns(report, found) {
   const all = report.history ? found.events.filter(event => AFTER[event[1]]).map(event => event[2]) : [], counts = {};
   for (const word of all) counts[word] = (counts[word] || 0) + 1;
-  const isNarrow = document.body.clientWidth < 600, numbers = Object.keys(counts).map(Number);
-  const most = isNarrow && numbers.length > 2 ? 0 : 8;
+  const numbers = Object.keys(counts).map(Number), threads = report.threads.length;
+  const most = isNarrow() ? (numbers.length > 2 || threads > 2 ? 0 : 2) : threads > 3 ? 4 : 8;
   const words = numbers.sort((one, two) => counts[two] - counts[one] || one - two).slice(0, most).sort((one, two) => one - two);
   const now = {}, rows = found.events.map(([, ...event]) => {
     Object.assign(now, wordsAfter([event]));
@@ -427,19 +429,26 @@ function eventTable(report, found, first, count) {
     const before = number ? beside.rows[number - 1][at] : "0".repeat(16);
     return node("td", {class: "word" + (digits === before ? " dim" : ""), title: `0x${digits}`}, text64(digits));
   };
+  // where an event was made: function and line, and the line's text or the instruction
+  const where = event => {
+    const place = placeOf(event), line = place && place.line || [];
+    const name = place ? [place.line && line[0] || place.address, line[1]].filter(Boolean).join(" ") : "";
+    return [name && node("div", {class: "dim"}, name), (line[3] || line[2]) && node("div", {class: "source", title: line[2]}, line[3] || line[2])].filter(Boolean);
+  };
+  // the lanes of many threads are narrow, so the place stands behind them; a narrow screen has no room for more than two, and has one for all
+  const isOne = report.history && isNarrow() && report.threads.length > 2, isBehind = report.history && !isOne && report.threads.length > 3;
   const cell = event => {
     if (!event) return node("td", {});
-    const place = placeOf(event), at = {thread: event[0], number: event[6]}, line = place && place.line || [];
-    const made = node("td", {class: "event" + (isChosen(event) ? " chosen" : ""), tabindex: 0, style: `border-left-color: ${COLOURS[event[1]]}`, onclick: () => choose(at),
-      onkeydown: key => { if (key.key === "Enter") choose(at); }}, eventWords(event));
-    const where = place ? [place.line && line[0] || place.address, line[1]].filter(Boolean).join(" ") : "";
-    if (where) made.append(node("div", {class: "dim"}, where));
-    if (line[3] || line[2]) made.append(node("div", {class: "source", title: line[2]}, line[3] || line[2]));
-    return made;
+    const at = {thread: event[0], number: event[6]};
+    return node("td", {class: "event" + (isChosen(event) ? " chosen" : ""), tabindex: 0, style: `border-left-color: ${COLOURS[event[1]]}`, onclick: () => choose(at),
+      onkeydown: key => { if (key.key === "Enter") choose(at); }}, eventWords(event), ...(isBehind ? [] : where(event)));
   };
-  const heads = ["event", ...beside.words.map(number => `word ${number}`), ...report.threads.map((_, thread) => `thread ${thread}`)];
-  return node("table", {class: "lanes"}, node("tr", {}, ...heads.map(name => node("th", {}, name))), ...rows.map((row, at) => node("tr", {},
-    node("td", {class: "dim"}, String(first + at)), ...(beside.rows[first + at] || []).map((digits, column) => word(digits, column, first + at)), ...row.map(cell))));
+  const lanesOf = isOne ? ["thread", ""] : report.threads.map((_, thread) => `thread ${thread}`);
+  const inLanes = row => isOne ? row.filter(Boolean).flatMap(event => [node("td", {class: "dim"}, String(event[0])), cell(event)]) : row.map(cell);
+  const heads = ["event", ...beside.words.map(number => `word ${number}`), ...lanesOf, ...(isBehind ? ["place"] : [])];
+  return node("table", {class: "lanes" + (isBehind ? " many" : "")}, node("tr", {}, ...heads.map(name => node("th", {}, name))), ...rows.map((row, at) => node("tr", {},
+    node("td", {class: "dim"}, String(first + at)), ...(beside.rows[first + at] || []).map((digits, column) => word(digits, column, first + at)), ...inLanes(row),
+    ...(isBehind ? [node("td", {}, ...row.filter(Boolean).flatMap(where))] : []))));
 }
 
 // ---- the page
