@@ -20,6 +20,7 @@ import time
 import outcomes
 import recorded
 import reports
+import script_tests
 import shared_words
 
 TOP = pathlib.Path(__file__).resolve().parent.parent
@@ -459,6 +460,30 @@ def try_page(tests, _):
                   address in thread["at"]] for thread in held["threads"]], [wanted] * 2)
 
 
+def try_drawn(tests, _):
+    """Chromium draws each event of a history in its lane, the words after it beside it, and
+    the words after an event that is chosen."""
+    if not shutil.which("chromium"):
+        return
+    program, path = tests.path("planned.elf"), tests.path("planned.sim")
+    text = tests.run(TOP / "tools/show.py", path, "--page", "--program", program)[1]
+    chosen, page = 6, tests.path("planned.html")
+    choose = f"<script>choose({{number: {chosen}}})</script></body>"
+    page.write_text(text.replace("</body>", choose))
+    cells = script_tests.Cells(tests.run(
+        "chromium", "--headless", "--no-sandbox", "--disable-gpu", "--virtual-time-budget=2000",
+        f"--user-data-dir={tests.path('chromium')}", "--window-size=1440,900", "--dump-dom",
+        page.as_uri())[1])
+    wanted = []
+    for number, (thread, event) in enumerate(reports.read(path).history):
+        lanes = ["", ""]
+        lanes[thread] = str(event).replace("->", "\u2192")
+        wanted.append([str(number), *map(str, MOMENTS[number + 1][0]), *lanes])
+    tests.check("the lanes of a history", [row for row in cells.rows["events"] if row], wanted)
+    words = [cells.registers.get(f"word {number}") for number in (0, 1)]
+    tests.check("the words after an event", words, [str(it) for it in MOMENTS[chosen + 1][0]])
+
+
 def try_orders(tests, _):
     """An order that is found is a page, of what `sim` makes of its plan."""
     script, program = TOP / "tools/outcomes.py", tests.path("planned.elf")
@@ -560,7 +585,8 @@ def try_beside_qemu(tests):
 
 
 def try_all(tests, client):
-    for test in (try_events, try_history, try_faults, try_waiting, try_port, try_page, try_orders):
+    for test in (try_events, try_history, try_faults, try_waiting, try_port, try_page, try_drawn,
+                 try_orders):
         test(tests, client)
     try_editors(tests)
     try_beside_qemu(tests)
