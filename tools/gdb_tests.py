@@ -209,8 +209,11 @@ def try_history(tests, client):
                 ["after event 4 of the history, the last of thread 1 up to count 7",
                  f"w 0 {1:016x}"])
     gdb.close()
-    # the same run without an order: each thread knows what it found and left
-    text = path.read_text()
+    try_alone(tests, client, program, path.read_text())
+
+
+def try_alone(tests, client, program, text):
+    """The same run without an order: each thread knows what it found and left."""
     text = text[text.index("smemu-report"):text.index("\nend\n") + 5]
     tests.path("alone.report").write_text(text)
     gdb = client(tests, program, tests.path("alone.report"))
@@ -439,8 +442,12 @@ def try_page(tests, _):
     tests.check("other events without a place",
                 [event[0] for (_, address), event in zip(thread["at"], thread["journal"])
                  if not address and event[0] != "poll"], ["st"])
-    if not shutil.which("aarch64-linux-gnu-as") or not shutil.which("aarch64-linux-gnu-ld"):
-        return
+    if shutil.which("aarch64-linux-gnu-as") and shutil.which("aarch64-linux-gnu-ld"):
+        try_lines(tests, show)
+
+
+def try_lines(tests, show):
+    """Of a program with lines each event has its function, its line and the text of that."""
     source = TOP / "examples/race.s"
     tests.run("aarch64-linux-gnu-as", "-g", "-march=armv9-a+sme", source, "-o",
               tests.path("lines.o"))
