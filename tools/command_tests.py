@@ -87,7 +87,7 @@ def try_scripts(tests):
     program = tests.assemble("hello", (TOP / "examples/hello.s").read_text())
     whole = tests.report(program, "hello")
     for words in (("exec", "hello.elf"), ("exec", "--svl", 512, "hello.elf", "--vl", 256), ("show", "hello.report"), ("when", program, whole, 0, "x", 0),
-                  ("refused", "hello.elf"), ("outcomes", "hello.elf", "--plans", ""), ("za-calls", program, whole)):
+                  ("refused", "hello.elf"), ("outcomes", "hello.elf", "--plans", ""), ("za-calls", program, whole), ("profile", program, whole)):
         script = tests.folder / "tools" / f"{verbs.SCRIPTS[words[0]]}.py"
         tests.check(f"smemu {words[0]}", tests.run(tests.wrapper, *words), tests.run(script, *words[1:]))
     tests.check("smemu exec", tests.run(tests.wrapper, "exec", "hello.elf"), (0, "Hello, SME!!\n"))

@@ -2,7 +2,7 @@
 """Finds all outcomes of a program's threads over the orders of their single steps; what weakly ordered memory allows besides is not among them.
 
     tools/outcomes.py PROGRAM --threads N [--switches N] [--states N] [--show WHAT].. [--jobs N] [--plans PREFIX]
-                      [--order] [--move] [--signal S [--to THREAD]] [--most N] [--vl BITS] [--svl BITS] [--slice N] [--budget N] [--cores N]
+                      [--order] [--page] [--move] [--signal S [--to THREAD]] [--most N] [--vl BITS] [--svl BITS] [--slice N] [--budget N] [--cores N]
 
 An order says which thread makes the next operation on what they share (docs/WORLDS.md). Orders are tried with no change of thread first, then with
 one, and so on, until there are no more: a change counts where the thread that is left could go on; it does not yield there, nor wait in a loop.
@@ -12,6 +12,8 @@ for `debug`, `tools/gdb.py` and others, PREFIX.1.plan, PREFIX.1.report and so on
 WHAT is exit (how each thread stops), words (the shared words that are not zero), `word N`, output, or a line of a report by its name, as `x 3`, za;
 exit and words where nothing is said. --switches N tries orders with at most N changes; --states N looks at so many states at most (20000).
 --order shows of each outcome the operations of an order that makes it: thread, place, instruction, and what it found or left.
+--page writes such an order as a page, PREFIX.1.html and so on: lanes of the threads with their
+lines of C, and the shared words after each operation.
 --move tries each plan again with a thread moved to another core, one place at a time: nothing may change.
 --signal S lets signal S, which the program posts, come at each place in turn, and says whether all is after the handler as it was before.
 Both try at most --most N places (1000). The status is 1 where there is more than one outcome, a move changes something or a signal does; else it is 3
@@ -29,6 +31,9 @@ import emulator
 import places
 import progress
 import recorded
+import report_page
+import report_places
+import reports
 import worlds
 
 ENDLESS = "no end"
@@ -68,6 +73,8 @@ class Search:
         self.world, self.most, self.jobs = world, words.states, words.jobs
         self.nodes, self.outcomes, self.free = {}, {}, {}
         self.level, self.is_all = 0, False
+        # the orders that are still to be followed, with as many changes of thread and with one more
+        self.now, self.later = 0, 0
         self.progress = progress.Progress()
 
     # states
@@ -122,7 +129,14 @@ class Search:
                 if has_yield:
                     self.nodes[key].yields.add(thread)
                 self.nodes[key].edges[thread] = key if state is None else self.keep(state, {thread: ahead} if ahead else {})
-            self.progress.show(f"states {len(self.nodes)}, outcomes {len(self.outcomes)}, changes of thread {self.level}")
+            self.progress.show(self.how_far())
+
+    def how_far(self):
+        """How much was looked at, what is left of the bound, and how many orders go on."""
+        number, level = len(self.nodes), self.level
+        return (f"states {number}, {self.most - number} left of --states; "
+                f"orders that go on: {self.now} with {changes(level)}, {self.later} with {level + 1}; "
+                f"outcomes {len(self.outcomes)}")
 
     # orders
 
@@ -164,6 +178,7 @@ class Search:
         """Looks at the states of one number of changes; the answer is the steps that one change more leads to."""
         later = []
         while queue:
+            self.now, self.later = len(queue), len(later)
             # states of a batch are looked at together
             self.find([(key, last) for key, last in queue if last is not None and not self.nodes[key].is_done(last)], pool)
             free = [(key, last, self.may_leave(key, last, pool)) for key, last in queue]
@@ -329,14 +344,27 @@ def order_of(search, node, seen, program, report):
         texts.update(((thread, count), answer[0].split(" ", 3)[2:]) for count, answer in zip(counts, answers))
     known.learn(int(pc, 16) for pc, _ in texts.values())
     for step, event in zip(node.state.trail, search.world.counting(seen.history)):
-        _, thread, kind, place, *values = event.split(" ")
-        a, b, answer = (int(it, 16) for it in values)
-        given = {"ld": "", "poll": "", "cas": f" {a}, {b}"}.get(kind, f" {a}")
+        event = event_of(event)
         where = ""
-        if step in texts and kind != "poll":
+        if step in texts and event.kind != "poll":
             pc, text = texts[step]
             where = f"{known.text(int(pc, 16))}: {text}: "
-        yield f"{thread}: {where}{kind} {place}{given}" + ("" if kind == "st" else f" -> {answer}")
+        yield f"{step[0]}: {where}{event}"
+
+
+def event_of(line):
+    """The event of a line of a history."""
+    _, _, kind, place, *values = line.split(" ")
+    return reports.Event(kind, int(place), *(int(it, 16) for it in values))
+
+
+def write_page(path, seen, text, words):
+    """Writes an order as a page, with the places of its operations where all threads stop."""
+    report = reports.parse(seen.text)
+    found = report_places.Found(words.program, path.with_suffix(".report"), report)
+    title = f"{pathlib.Path(words.program).name}: {text}"
+    chosen = {"size": "s", "how": "signed", "isOrder": True}
+    path.write_text(report_page.page([report], [path.stem], None, chosen, [found], title))
 
 
 def show_outcomes(search, is_cut, words):
@@ -353,7 +381,10 @@ def show_outcomes(search, is_cut, words):
         for at, (number, text, node) in enumerate(lines, 1):
             prefix = f"{words.plans}.{at}" if words.plans else f"{folder}/{at}"
             seen = write_outcome(search, node, prefix)
-            print(f"  {number.rjust(width)} {text}" + (f"    {prefix}.plan" if words.plans else ""))
+            names = [f"{prefix}.plan", *[f"{prefix}.html"] * words.page] if words.plans else []
+            print(f"  {number.rjust(width)} {text}" + ("    " + " ".join(names) if names else ""))
+            if words.page:
+                write_page(pathlib.Path(f"{prefix}.html"), seen, text, words)
             if words.order:
                 for line in order_of(search, node, seen, words.program, f"{prefix}.report"):
                     print(f"  {' ' * width}   {line}")
@@ -378,6 +409,7 @@ def arguments():
     parser.add_argument("--jobs", type=int, default=min(4, os.cpu_count() or 1), metavar="N")
     parser.add_argument("--plans", metavar="PREFIX", help="of the plans and reports that are written; an empty text: none")
     parser.add_argument("--order", action="store_true")
+    parser.add_argument("--page", action="store_true")
     parser.add_argument("--move", action="store_true")
     parser.add_argument("--signal", type=int, metavar="S")
     parser.add_argument("--to", type=int, metavar="THREAD", help="the thread to which the signal comes, where it is posted to several")
@@ -388,6 +420,8 @@ def arguments():
     words.show = words.show or ["exit", "words"]
     words.cores = words.cores or max(2, words.threads)
     words.plans = pathlib.Path(words.program).stem if words.plans is None else words.plans
+    if words.page and not words.plans:
+        parser.error("--page writes files, and an empty --plans none")
     if not 1 <= words.threads <= min(32, worlds.RESIDENTS * words.cores) or words.cores > 64:
         parser.error("1 to 32 threads, at most 8 on a core, and 64 cores at most")
     return words

@@ -8,6 +8,7 @@ import collections
 import pathlib
 import re
 import struct
+import tempfile
 
 import emulator
 import reports
@@ -29,6 +30,10 @@ HOT = 4096
 # the words of a listing after which ZA may be another: those that write it, or turn it on or off, and a call, which may be a handler's return
 CHANGES_ZA = re.compile(r"^([0-9a-f]{16}) [0-9a-f]{8} (?:zero|smst(?:art|op)(?: za)?$|svc|(?!st)\w+ \{?za)", re.MULTILINE)
 
+# the lines before the report in what `sim` writes
+SKIPS = re.compile(rb"(?:skip [^\n]*\n)*")
+# a thread that has not stopped, and the status of a report that is none
+RUNNING, NOT_STOPPED = re.compile(rb"^thread (\d+)\nstop none$", re.MULTILINE), 9
 # an event by which a thread was given signals
 SIGNALS = re.compile(rb"^e poll \d+ 0{16} 0{16} (?!0{16})", re.MULTILINE)
 
@@ -68,19 +73,44 @@ def constant_pages(program):
     return constant - written
 
 
+class Plain:
+    """The file of a report. Of what `sim` writes, which has more before it and after it, it is one
+    with the report alone, for as long as this is there."""
+
+    def __init__(self, path):
+        self.path, self.file = str(path), None
+        try:
+            data = pathlib.Path(path).read_bytes()
+        except OSError:
+            # the emulator says so
+            return
+        running = RUNNING.search(data)
+        if running:
+            raise emulator.Refused(f"thread {running[1].decode()} has not stopped, and a record is "
+                                   "gone over where all threads have", NOT_STOPPED)
+        start, end = data.find(b"smemu-report "), data.rfind(b"\nend\nhistory ")
+        if start >= 0 and SKIPS.fullmatch(data[:start]) and (start > 0 or end >= 0):
+            self.file = tempfile.NamedTemporaryFile(suffix=".report")
+            self.file.write(data[start:end + 5 if end >= 0 else None])
+            self.file.flush()
+            self.path = self.file.name
+
+
 def threads_of(program, report_file):
     """The numbers of the threads of a report. Refused where the emulator refuses one of the files, or the record of thread 0."""
     return [block.number for block in Recorded(program, report_file, 0).report.threads]
 
 
 class Recorded:
-    """A thread of a report. Refused where the emulator refuses one of the files, the thread or the record.
+    """A thread of a report, or of what `sim` writes. Refused where the emulator refuses one of the
+    files, the thread or the record.
 
     While a call waits, `is_over` may tell that nobody waits for it any longer; the call then ends by Interrupted.
     """
 
     def __init__(self, program, report_file, thread, is_over=None):
-        self.words = [emulator.find(), "debug", str(program), str(report_file), str(thread), "/dev/stdin"]
+        self.file = Plain(report_file)
+        self.words = [emulator.find(), "debug", str(program), self.file.path, str(thread), "/dev/stdin"]
         self.is_over = is_over
         self.ask([EMPTY])
         # the emulator has read it, so it is a report

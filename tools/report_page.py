@@ -1,7 +1,8 @@
 """Makes one HTML file of a report, or of two with what differs: `tools/show.py --page` calls it.
 
-The table of threads and the list of what differs stand in the file as they are; all else is drawn from the reports in it by page/page.js.
-Nothing is fetched from elsewhere.
+The table of threads and the list of what differs stand in the file as they are; all else is drawn
+from the reports in it by page/page.js, with what report_places.py finds of the program. Nothing is
+fetched from elsewhere.
 """
 import html
 import json
@@ -22,9 +23,11 @@ def event_list(event):
     return [event.kind, event.place, *(f"{value:x}" for value in (event.a, event.b, event.answer))]
 
 
-def thread_data(report, thread):
+def thread_data(report, thread, found):
     """What the page draws of a thread. Numbers of 64 bits are digits, since those of a page end at 2^53."""
     return {
+        "stop": thread.stop.meaning, "failed": thread.stop.status != 0,
+        "at": found and found.events.get(thread.number),
         "count": thread.count, "turns": thread.turns, "x": [f"{value:016x}" for value in thread.x],
         **{name: f"{getattr(thread, name):016x}" for name in ("pc", "sp", "tpidr", "tpidr2", "held")},
         "nzcv": thread.nzcv, "svcr": thread.svcr, "mask": f"{thread.mask:016x}" if report.version > 1 else None, "depth": thread.depth,
@@ -36,11 +39,12 @@ def thread_data(report, thread):
     }
 
 
-def report_data(report):
-    """What the page draws of a report."""
+def report_data(report, found):
+    """What the page draws of a report, with what is known of its program or None."""
     history = report.history
     return {
-        "threads": [thread_data(report, thread) for thread in report.threads],
+        "threads": [thread_data(report, thread, found) for thread in report.threads],
+        "places": found.lines if found else {},
         "shared": {number: f"{value:016x}" for number, value in report.shared.items()},
         "pending": {number: f"{value:016x}" for number, value in report.pending.items()},
         "history": history and [[entry.thread, *event_list(entry.event)] for entry in history[:MOST_EVENTS]],
@@ -71,9 +75,9 @@ def thread_table(reports):
     return f'<section id="threads" class="wide"><table><thead><tr>{heads}</tr></thead><tbody>{"".join(rows)}</tbody></table></section>'
 
 
-def head(reports, names):
-    """The names of the files, the options, the program, and the events of the plan that were skipped."""
-    lines = [f"<h1>{both(names) if len(names) == 1 else ' and '.join(map(html.escape, names))}</h1>"]
+def head(reports, names, title):
+    """The title, the options, the program, and the events of the plan that were skipped."""
+    lines = [f"<h1>{title}</h1>"]
     for what, values in (("", [" ".join(f"{name}={value}" for name, value in it.options.items()) for it in reports]),
                          ("report of version ", [str(it.version) for it in reports]), ("program ", [it.image for it in reports])):
         lines.append(f"<p><code>{what}{both(values)}</code></p>")
@@ -98,13 +102,16 @@ def first_thread(reports):
     return next((thread.number for thread in reports[-1].threads if thread.stop.status != 0), 0)
 
 
-def page(reports, names, lines, size, how, thread):
-    """The file, for one report or two with their names, and the lines of what differs. The last three are what is chosen at first."""
-    chosen = {"thread": first_thread(reports) if thread is None else thread, "size": size, "how": how}
-    held = json.dumps({"names": names, "first": chosen, "reports": [report_data(report) for report in reports]}, separators=(",", ":"))
+def page(reports, names, lines, chosen, found, title=None):
+    """The file, for one report or two with their names, and the lines of what differs. `chosen` is
+    what is chosen at first, `found` what is known of each report's program, or None; a title stands
+    in the place of the names."""
+    drawn = [report_data(*both) for both in zip(reports, found)]
+    first = {"thread": first_thread(reports), **chosen}
+    held = json.dumps({"names": names, "first": first, "reports": drawn}, separators=(",", ":"))
     # no text of a report may end the element
     held = held.replace("<", "\\u003c")
-    title = html.escape(" and ".join(names))
+    title = html.escape(title or " and ".join(names))
     return f"""<!DOCTYPE html>
 <html lang="en">
 <head>
@@ -115,7 +122,7 @@ def page(reports, names, lines, size, how, thread):
 {(PARTS / "page.css").read_text()}</style>
 </head>
 <body>
-{head(reports, names)}
+{head(reports, names, title)}
 {thread_table(reports)}
 {differences_list(lines)}
 <noscript><p>The registers, vectors, ZA and events of a thread are drawn by the script in this file, which is not run here.</p></noscript>

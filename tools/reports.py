@@ -90,6 +90,11 @@ class Event(NamedTuple):
     b: int
     answer: int
 
+    def __str__(self):
+        """Its kind, place and values, and behind an arrow what it found."""
+        given = {"ld": "", "poll": "", "cas": f" {self.a}, {self.b}"}.get(self.kind, f" {self.a}")
+        return f"{self.kind} {self.place}{given}" + ("" if self.kind == "st" else f" -> {self.answer}")
+
 
 class Entry(NamedTuple):
     """An event of the history, with its thread."""

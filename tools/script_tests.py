@@ -222,7 +222,10 @@ def refusing(folder):
             ("a thread", [TWO, "--thread", 2], "there is no thread 2: these are 0 to 1"),
             ("a tile", [TWO, "--tile", 4], "there is no tile za4.s: these are 0 to 3"),
             ("rows", [TWO, "--tile", 1, "--rows", 4], "there are no rows 4 to 4: these are 0 to 3"),
-            ("JSON of two", [TWO, TWO, "--json"], "--json shows one report")):
+            ("JSON of two", [TWO, TWO, "--json"], "--json shows one report"),
+            ("a program without a page", [TWO, "--program", sys.executable], "--program is for --page"),
+            ("another program", [TWO, "--page", "--program", sys.executable], f"{sys.executable} is not the program of {TWO}"),
+            ("no program", [TWO, "--page", "--program", "absent"], "[Errno 2] No such file or directory: 'absent'")):
         status, text, said = show(*words)
         yield what, (status, text, said[:len(f"show: {wanted}")]), (2, "", f"show: {wanted}")
     long = folder / "long.report"
@@ -240,6 +243,7 @@ class Cells(html.parser.HTMLParser):
 
     def __init__(self, text):
         super().__init__()
+        self.text = text
         self.rows, self.registers, self.marked, self.place, self.name, self.is_cell, self.is_marked = {}, {}, [], None, None, False, False
         self.feed(text)
 
@@ -266,32 +270,37 @@ class Cells(html.parser.HTMLParser):
 
 
 def drawn(chromium, folder, text):
-    """The page as Chromium has it after its scripts, first as it opens, then of thread 1 with halfwords in hexadecimal."""
+    """The page as Chromium has it after its scripts: as it opens, with an event chosen, and of thread 1 with halfwords in hexadecimal."""
     choose = """<script>
     const opened = document.getElementById("panel").cloneNode(true);
+    choose({thread: 0, number: 1});
+    const chosen = document.getElementById("panel").cloneNode(true);
+    choose(null);
     state.size = "h";
     state.how = "hex";
     document.querySelectorAll("#threads tbody tr")[1].click();
-    document.body.append(document.createElement("hr"), opened);
+    document.body.append(document.createElement("hr"), opened, document.createElement("hr"), chosen);
     </script></body>"""
     path = folder / "both.html"
     path.write_text(text.replace("</body>", choose))
     words = (chromium, "--headless", "--no-sandbox", "--disable-gpu", f"--user-data-dir={folder / 'data'}", "--virtual-time-budget=2000", "--dump-dom")
-    clicked, _, opened = ran(*words, path.as_uri(), timeout=60)[1].rpartition("<hr>")
-    return Cells(opened), Cells(clicked)
+    clicked, opened, chosen = ran(*words, path.as_uri(), timeout=60)[1].split("<hr>")
+    return Cells(opened), Cells(chosen), Cells(clicked)
 
 
 def drawing(chromium, folder, text):
     """What the page's script makes of two reports: of the second, with what differs marked."""
-    opened, clicked = drawn(chromium, folder, text)
+    opened, chosen, clicked = drawn(chromium, folder, text)
     zeros = ["0"] * 4
     yield "tiles", [row for row in opened.rows.get("za0.s", []) if row], [zeros, ["9", "2", "3", "4"], zeros, zeros]
-    yield "registers", [opened.registers.get(name) for name in ("x0", "x30", "pc", "sm", "mask", "handler 5", "word 511")], [
-        "0000000000000003", "f" * 16, "0000000000400054", "1", "0000000000000028", "0000000000400050", "f" * 16]
-    yield "events", opened.rows.get("events", [])[1:], [
-        ["0", "0", "post", "1", "20", "0", "0"], ["1", "0", "ld", "511", "0", "0", "f" * 16], ["2", "0", "cas", "0", "1", "2", "1"]]
+    yield "registers", [opened.registers.get(name) for name in ("x0", "x30", "pc", "sm", "mask", "handler 5", "word 511", "word 0")], [
+        "3", "-1", "0000000000400054", "1", "0000000000000028", "0000000000400050", "-1", "2"]
+    yield "events", opened.rows.get("events", [])[1:], [["0", "post 1 32 \u2192 0", ""], ["1", "ld 511 \u2192 -1", ""], ["2", "cas 0 1, 2 \u2192 1", ""]]
+    yield "words after an event", [chosen.registers.get(name) for name in ("word 0", "word 511")], [None, "-1"]
     yield "marks", opened.marked, ["9"]
-    yield "another thread", [clicked.registers.get(name) for name in ("x0", "x1", "pc", "za")], [f"{1:016}", f"{2:016}", "0000000000400010", "0"]
+    yield "another thread", [clicked.registers.get(name) for name in ("x0", "x1", "pc", "za", "tpidr2")], [f"{1:016}", f"{2:016}", "0000000000400010", "0", "0" * 16]
+    yield "what is empty, in one line", re.findall(r'id="empty" class="dim">([^<]*)<', opened.text + clicked.text), [
+        "ZA is off; all zero: vectors of 128 bits, predicates"]
 
 
 def data_of(text):

@@ -5,11 +5,11 @@ numbers, the output as text, and the journal; of two reports what differs.
     tools/show.py REPORT [--thread N|all] [--size b|h|s|d] [--unsigned | --hex] [--tile N] [--rows A-B] [--columns A-B]
     tools/show.py REPORT OTHER [the same]
     tools/show.py REPORT --json
-    tools/show.py REPORT [OTHER] --page > page.html
+    tools/show.py REPORT [OTHER] --page [--program PROGRAM] > page.html
 
 An element has 1, 2, 4 or 8 bytes (s, 4, where it is not said). Element 0 stands first, and row R of a tile is line R of its table, from 0
 on. Of one report thread 0 is shown, and two are compared in all threads, where --thread does not say otherwise. What `sim` writes is read
-too. REPORT may be /dev/stdin. The status is 1 where two reports differ, and 2 where one is no report.
+too. With --program the page names functions, lines and the places of events; SMEMU may name the emulator that is asked. REPORT may be /dev/stdin. The status is 1 where two reports differ, and 2 where one is no report.
 """
 import argparse
 import itertools
@@ -325,6 +325,8 @@ def parser():
     words.add_argument("--columns", type=part_of, metavar="A-B", help="these columns of tiles")
     words.add_argument("--json", action="store_true", help="all of a report as JSON")
     words.add_argument("--page", action="store_true", help="one report, or two and what differs, as one HTML file")
+    words.add_argument("--program", metavar="PROGRAM",
+                       help="with --page: functions, lines and the places of events")
     return words
 
 
@@ -332,6 +334,8 @@ def write(words, view, report, other):
     """Writes what is asked for of one report or of two; the answer is the status."""
     which = "all" if words.thread is None and other else words.thread or 0
     lines = other and [f"{name}: {one}, {two}" for name, one, two in differences(report, other, view, which)]
+    if words.program and not words.page:
+        raise Refused("--program is for --page")
     if words.json and other:
         raise Refused("--json shows one report")
     if words.json:
@@ -339,11 +343,26 @@ def write(words, view, report, other):
         print()
     elif words.page:
         both, names = [report, *[other] * bool(other)], [words.report, *[words.other] * bool(other)]
-        first = None if which == "all" or words.thread is None else chosen_threads(report, which)[0].number
-        print(report_page.page(both, names, lines, words.size, words.how, first))
+        chosen = {"size": words.size, "how": words.how}
+        if which != "all" and words.thread is not None:
+            chosen["thread"] = chosen_threads(report, which)[0].number
+        found = [found_of(words.program, *it) for it in zip(names, both)]
+        print(report_page.page(both, names, lines, chosen, found))
     else:
         print("".join(f"{line}\n" for line in (lines if other else shown(report, view, which))), end="")
     return 1 if lines else 0
+
+
+def found_of(program, path, report):
+    """What a program says of a report, or None where none is given."""
+    if not program:
+        return None
+    import emulator
+    import report_places
+    try:
+        return report_places.Found(program, path, report)
+    except (OSError, report_places.Other, emulator.Refused) as fault:
+        raise Refused(str(fault)) from fault
 
 
 def main():

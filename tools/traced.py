@@ -31,6 +31,18 @@ def extended(value, how):
     return value - 2 ** 32 if how == "sxtw" and value >> 31 else value
 
 
+def address_of(text, registers, unit=0):
+    """The address that an instruction accesses, with the unit of an offset `mul vl`; None of one without a base."""
+    found = BASE.search(text)
+    if not found:
+        return None
+    base, number, is_scaled, index, how, shift = found.groups()
+    offset = int(number or 0) * (unit if is_scaled else 1)
+    if index:
+        offset = extended(value_of(registers, index), how) << int(shift or 0)
+    return (value_of(registers, base) + offset) % SPACE
+
+
 class Memory:
     """Where an instruction may write: an address and a length, for a report's vector lengths."""
 
@@ -56,15 +68,11 @@ class Memory:
 
     def place(self, text, registers):
         """The address and the length of what an instruction may write, or None."""
-        found = BASE.search(text)
-        if not STORES.match(text) or not found:
+        if not STORES.match(text):
             return None
-        base, number, is_scaled, index, how, shift = found.groups()
         size, unit = self.size(text, self.svl if registers["svcr"] in ("1", "3") else self.vl)
-        offset = int(number or 0) * (unit if is_scaled else 1)
-        if index:
-            offset = extended(value_of(registers, index), how) << int(shift or 0)
-        return (value_of(registers, base) + offset) % SPACE, size
+        address = address_of(text, registers, unit)
+        return None if address is None else (address, size)
 
 
 def changed(before, after):

@@ -11,7 +11,7 @@ import sys
 sys.dont_write_bytecode = True
 import emulator
 
-SCRIPTS = {"exec": "execute", "gdb": "gdb", "outcomes": "outcomes", "za-calls": "za_calls", "when": "when", "show": "show", "refused": "refused"}
+SCRIPTS = {"exec": "execute", "gdb": "gdb", "outcomes": "outcomes", "za-calls": "za_calls", "when": "when", "profile": "profile", "show": "show", "refused": "refused"}
 
 
 def main():

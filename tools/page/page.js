@@ -6,7 +6,8 @@ const COLOURS = {ld: "#2f7ed8", st: "#d9541e", swp: "#8f5bd0", add: "#1d9a6c", c
                  umin: "#5d4037", cas: "#d81b78", post: "#111a66", poll: "#9aa3ad"};
 // so many columns and rows of a tile are written as numbers, so many elements are a map
 const WINDOW = 16, LEAST_CELL = 2, MOST_CELL = 22;
-const state = {...data.first, report: data.reports.length - 1, windows: {}, event: 0};
+// of the events the first that is drawn, and the one that is chosen: its number, and its thread where there is no order between threads
+const state = {...data.first, report: data.reports.length - 1, windows: {}, event: 0, at: null};
 
 function node(tag, attributes, ...children) {
   const made = document.createElement(tag);
@@ -24,6 +25,9 @@ function drawn(tag, attributes, ...children) {
   made.append(...children);
   return made;
 }
+
+// a part of the page that is drawn; of one without content there is a text, which stands in one line with the others
+const isDrawn = it => it instanceof Node;
 
 // ---- values
 
@@ -50,6 +54,12 @@ function elements(bytes, size, how) {
   return found;
 }
 
+// a number of 64 bits, of its digits; and an address with its function and its line, where the program was given
+const text64 = digits => state.how === "hex" ? digits : BigInt.asIntN(state.how === "signed" ? 64 : 65, BigInt("0x" + digits)).toString();
+const nameOf = digits => {
+  const place = reportOf(state.report).places[digits.replace(/^0+(?=.)/, "")];
+  return place ? [place[0], place[1]].filter(Boolean).join(" ") : "";
+};
 const textOf = (value, how, size) => how === "hex" ? value.toString(16).padStart(2 * size, "0") : value.toString();
 const isZero = value => Number(value) === 0;
 const absolute = value => Math.abs(Number(value));
@@ -66,19 +76,32 @@ const classOf = (value, differs) => [isZero(value) && "zero", differs && "differ
 
 // ---- registers and vectors
 
-function register(name, text, was, long) {
-  const differs = was !== undefined && was !== text;
-  const zero = /^[0 ]*$/.test(text);
-  return node("div", {class: "register" + (long ? " long" : "") + (differs ? " differs" : ""), "data-name": name, title: differs ? `the other report: ${was}` : null},
-    node("b", {}, name), node("span", {class: zero ? "zero" : null}, text));
+function register(name, text, was, more = {}) {
+  const differs = was !== undefined && was !== text, zero = /^[0 ]*$/.test(text);
+  const kinds = ["register", more.long && "long", differs && "differs", zero && !differs && more.general && "none"].filter(Boolean);
+  const title = [differs && `the other report: ${was}`, more.digits && state.how !== "hex" && `0x${more.digits}`].filter(Boolean).join(", ");
+  return node("div", {class: kinds.join(" "), "data-name": name, title: title || null},
+    node("b", {}, name), node("span", {class: zero ? "zero" : null}, text), more.place ? node("i", {}, more.place) : null);
+}
+
+// the stop, and what decides what the thread's instructions mean
+function headline() {
+  const thread = threadOf(state.report), was = other();
+  const bits = it => ({pc: it.pc, sm: String(it.svcr & 1), za: String(it.svcr >> 1), tpidr2: it.tpidr2});
+  const before = was ? bits(was) : {};
+  const titles = {sm: "PSTATE.SM", za: "PSTATE.ZA", tpidr2: "TPIDR2_EL0", pc: "PC"};
+  return node("section", {id: "top"}, node("p", {class: thread.failed ? "failed" : null}, thread.stop), node("div", {class: "registers"},
+    ...Object.entries(bits(thread)).map(([name, text]) => {
+      const made = register(name, text, was && before[name], {place: name === "pc" ? nameOf(text) : ""});
+      made.firstChild.textContent = titles[name];
+      return made;
+    })));
 }
 
 function registersOf(thread) {
   const found = {};
   thread.x.forEach((value, number) => { found["x" + number] = value; });
-  for (const name of ["sp", "pc", "tpidr", "tpidr2", "nzcv"]) found[name] = thread[name];
-  found.sm = String(thread.svcr & 1);
-  found.za = String(thread.svcr >> 1);
+  for (const name of ["sp", "tpidr", "nzcv"]) found[name] = thread[name];
   return found;
 }
 
@@ -92,8 +115,14 @@ function kernelOf(thread) {
 
 function registers(title, read) {
   const held = read(threadOf(state.report)), was = other() ? read(other()) : {};
-  return node("section", {id: title.toLowerCase()}, node("h2", {}, title), node("div", {class: "registers"},
-    ...Object.entries(held).map(([name, text]) => register(name, text, other() && (was[name] || "none"), name === "memory"))));
+  const shown = Object.entries(held).map(([name, text]) => {
+    const isGeneral = /^x\d/.test(name), say = digits => isGeneral && digits !== "none" ? text64(digits) : digits;
+    const place = name === "x30" || name.startsWith("handler") ? nameOf(text) : "";
+    return register(name, say(text), other() && say(was[name] || "none"), {long: name === "memory", general: true, digits: isGeneral && text, place});
+  });
+  const none = shown.filter(it => it.classList.contains("none")).length;
+  return node("section", {id: title.toLowerCase()}, node("h2", {}, title), node("div", {class: "registers"}, ...shown),
+    none ? node("p", {class: "dim phone"}, `${none} that are zero are left out`) : null);
 }
 
 function cells(values, before) {
@@ -115,8 +144,7 @@ function vectors() {
     const read = it => elements(vector(it.z, number, it.length), SIZES[state.size], state.how);
     section.append(node("h3", {}, `z${number}.${state.size}`), cells(read(thread), other() && other().length === thread.length ? read(other()) : null));
   }
-  if (section.children.length === 1) section.append(node("p", {class: "dim"}, "all zero"));
-  return section;
+  return section.children.length > 1 ? section : {zero: `vectors of ${8 * thread.length} bits${lengthNote(thread)}`};
 }
 
 function bitsOf(thread, name) {
@@ -132,8 +160,7 @@ function predicates() {
     if (!holds(thread, name) && !holds(other(), name)) continue;
     section.append(node("h3", {}, `${name}.${state.size}`), cells(bitsOf(thread, name), other() && other().length === thread.length ? bitsOf(other(), name) : null));
   }
-  if (section.children.length === 1) section.append(node("p", {class: "dim"}, "all zero"));
-  return section;
+  return section.children.length > 1 ? section : {zero: "predicates"};
 }
 
 // ---- ZA
@@ -229,15 +256,11 @@ function tile(number, width) {
 }
 
 function za() {
-  const thread = threadOf(state.report), section = node("section", {id: "za"}, node("h2", {}, "ZA"));
-  if (!thread.za) {
-    section.append(node("p", {class: "dim"}, "PSTATE.ZA is 0"));
-    return section;
-  }
+  const thread = threadOf(state.report);
+  if (!thread.za) return {said: "ZA is off"};
   const shown = [...Array(SIZES[state.size]).keys()].filter(number => holdsTile(thread, number) || holdsTile(other(), number));
   const width = Math.min(560, document.body.clientWidth - 24);
-  section.append(node("p", {class: "dim"}, shown.length ? "" : "on, and all zero"), ...shown.map(number => tile(number, width)));
-  return section;
+  return shown.length ? node("section", {id: "za"}, node("h2", {}, "ZA"), ...shown.map(number => tile(number, width))) : {said: "ZA is on, and zero"};
 }
 
 // ---- output, shared words and events
@@ -247,29 +270,95 @@ function output() {
   return thread.written ? node("section", {id: "output"}, node("h2", {}, `Output, ${thread.written} bytes`), node("pre", {}, thread.output)) : null;
 }
 
-function words() {
-  const held = reportOf(state.report), was = data.reports.length > 1 && reportOf(1 - state.report), zero = "0".repeat(16), found = [];
-  for (const [part, name] of [["shared", "word "], ["pending", "pending "]]) {
-    const numbers = new Set([...Object.keys(held[part]), ...Object.keys(was ? was[part] : {})].map(Number));
-    for (const number of [...numbers].sort((one, two) => one - two)) {
-      found.push(register(name + number, held[part][number] || zero, was ? was[part][number] || zero : undefined));
-    }
+// the shared word after an operation, of the word before it and both values
+const ALL = (1n << 64n) - 1n;
+const AFTER = {ld: word => word, st: (word, a) => a, swp: (word, a) => a, add: (word, a) => word + a & ALL, clr: (word, a) => word & ~a, eor: (word, a) => word ^ a,
+               set: (word, a) => word | a, umax: (word, a) => word > a ? word : a, umin: (word, a) => word < a ? word : a, cas: (word, a, b) => word === a ? b : word};
+
+// the shared words after some events, as far as these say
+function wordsAfter(events) {
+  const found = {};
+  for (const [kind, place, a, b, answer] of events) {
+    if (AFTER[kind]) found[place] = AFTER[kind](BigInt("0x" + answer), BigInt("0x" + a), BigInt("0x" + b)).toString(16).padStart(16, "0");
   }
-  const none = node("p", {class: "dim"}, "all zero, and no signal is pending");
-  return node("section", {id: "shared"}, node("h2", {}, "Shared words"), found.length ? node("div", {class: "registers"}, ...found) : none);
+  return found;
 }
 
-// the events to show as [thread, kind, place, a, b, answer], and what their order is
+function wordsAtEnd() {
+  const held = reportOf(state.report), was = data.reports.length > 1 && reportOf(1 - state.report), zero = "0".repeat(16), found = [];
+  for (const [part, name] of [["shared", "word "], ["pending", "pending "]]) {
+    const say = digits => part === "shared" ? text64(digits) : digits;
+    const numbers = new Set([...Object.keys(held[part]), ...Object.keys(was ? was[part] : {})].map(Number));
+    for (const number of [...numbers].sort((one, two) => one - two)) {
+      const digits = held[part][number] || zero;
+      found.push(register(name + number, say(digits), was ? say(was[part][number] || zero) : undefined, {digits: part === "shared" && digits}));
+    }
+  }
+  return found.length ? node("section", {id: "shared"}, node("h2", {}, "Shared words"), node("div", {class: "registers"}, ...found)) : {zero: "shared words"};
+}
+
+function words() {
+  if (state.at === null) return wordsAtEnd();
+  const {thread, number} = state.at, found = eventsOf(reportOf(state.report)), isLane = found.lanes;
+  const made = isLane ? threadEvents(thread).slice(0, number + 1) : found.events.slice(0, number + 1).map(event => event.slice(1));
+  const held = Object.entries(wordsAfter(made)).map(([word, digits]) => register("word " + word, text64(digits), undefined, {digits}));
+  const event = found.events.find(it => isLane ? it[0] === thread && it[6] === number : it[6] === number), place = placeOf(event);
+  const last = (isLane ? threadEvents(thread) : found.events).length - 1;
+  const button = (text, to, isThere) => node("button", {type: "button", disabled: !isThere, onclick: () => choose(to)}, text);
+  return node("section", {id: "shared"}, node("h2", {}, isLane ? `Shared words as thread ${thread} knows them after its event ${number}` : `Shared words after event ${number}`),
+    node("p", {}, `thread ${event[0]}: ${eventWords(event)}`, place ? node("span", {class: "dim"}, ` ${placeWords(place)}`) : null),
+    node("div", {class: "registers"}, ...held),
+    node("p", {}, button("the event before", {thread, number: number - 1}, number > 0), " ", button("the next event", {thread, number: number + 1}, number < last), " ",
+      button("at the end", null, true)));
+}
+
+const threadEvents = thread => reportOf(state.report).threads[thread].journal;
+
+// where an event was made: its count, its address, and what stands there; undefined where that is not known
+function placeOf(event) {
+  const at = reportOf(state.report).threads[event[0]].at;
+  const [count, address] = at && at[event[7]] || [];
+  if (count === undefined) return undefined;
+  return {count, address, line: address && reportOf(state.report).places[address]};
+}
+
+// function, line and instruction
+function placeWords(place) {
+  const line = place.line || [];
+  return [`at ${place.count}`, place.address && place.address.padStart(16, "0"), line[0], line[1]].filter(Boolean).join(" ") + (line[2] ? `: ${line[2]}` : "");
+}
+
+// the events to show as [thread, kind, place, a, b, answer, number, number in the thread's journal], and what their order is
 function eventsOf(report) {
-  if (report.history) return {events: report.history, left: report.historyLeft, order: "in the order in which they were made", lanes: false};
   const events = [];
-  report.threads.forEach((thread, number) => thread.journal.forEach((event, at) => events.push([number, ...event, at])));
+  if (report.history) {
+    const made = report.threads.map(() => 0);
+    report.history.forEach((event, number) => events.push([...event, number, made[event[0]]++]));
+    return {events, left: report.historyLeft, order: "in the order in which they were made", lanes: false};
+  }
+  report.threads.forEach((thread, number) => thread.journal.forEach((event, at) => events.push([number, ...event, at, at])));
   const left = report.threads.reduce((sum, thread) => sum + thread.journalLeft, 0);
   return {events, left, order: "each thread's in its own order; a report has no order between threads", lanes: true};
 }
 
-const eventText = ([thread, kind, place, a, b, answer]) =>
-  `thread ${thread} ${kind} ${kind === "post" || kind === "poll" ? "thread" : "word"} ${place}, a 0x${a}, b 0x${b}, answer 0x${answer}`;
+// an event's kind, place and values, and what it found
+function eventWords([, kind, place, a, b, answer]) {
+  const say = digits => state.how === "hex" ? `0x${digits}` : text64(digits.padStart(16, "0"));
+  const given = {ld: "", poll: "", cas: ` ${say(a)}, ${say(b)}`}[kind];
+  return `${kind} ${place}${given === undefined ? ` ${say(a)}` : given}` + (kind === "st" ? "" : ` \u2192 ${say(answer)}`);
+}
+
+const isChosen = event => state.at !== null && state.at.number === event[6] && (reportOf(state.report).history || state.at.thread === event[0]);
+
+// shows the shared words after an event, or at the end
+function choose(at) {
+  state.at = at;
+  drawEvents(at);
+  document.getElementById("words").replaceChildren(...[words()].filter(isDrawn));
+}
+
+// draws the events again, with one of them among them
+let drawEvents = () => {};
 
 function lanes(report, found, first, count, step) {
   const threads = report.threads.length, left = 34, height = 20, width = left + count * step + 4;
@@ -278,13 +367,15 @@ function lanes(report, found, first, count, step) {
     const y = thread * height + height / 2;
     svg.append(drawn("text", {x: 0, y: y + 4}, String(thread)), drawn("line", {x1: left - 8, x2: width, y1: y, y2: y}));
   }
-  found.events.forEach((event, at) => {
-    const place = found.lanes ? event[6] : at;
-    if (place < first || place >= first + count) return;
-    const mark = drawn("rect", {x: left + (place - first) * step, y: event[0] * height + 4, width: step - 3, height: height - 8, rx: 2, fill: COLOURS[event[1]]});
-    mark.append(drawn("title", {}, `event ${place}: ${eventText(event)}`));
+  for (const event of found.events) {
+    const number = event[6], place = placeOf(event);
+    if (number < first || number >= first + count) continue;
+    const mark = drawn("rect", {x: left + (number - first) * step, y: event[0] * height + 4, width: step - 3, height: height - 8, rx: 2, fill: COLOURS[event[1]],
+      class: isChosen(event) ? "chosen" : ""});
+    mark.addEventListener("click", () => choose({thread: event[0], number}));
+    mark.append(drawn("title", {}, `event ${number}: thread ${event[0]} ${eventWords(event)}` + (place ? ` ${placeWords(place)}` : "")));
     svg.append(mark);
-  });
+  }
   return svg;
 }
 
@@ -292,37 +383,79 @@ function events() {
   const report = reportOf(state.report), found = eventsOf(report), step = 14;
   const title = report.history ? "History" : "Journals";
   const total = found.lanes ? Math.max(0, ...report.threads.map(thread => thread.journal.length)) : found.events.length;
+  if (!total) return {said: "no events"};
   const section = node("section", {id: "events"}, node("h2", {}, `${title}, ${found.events.length + found.left} events`));
-  if (!total) return section;
   const count = Math.max(1, Math.min(total, Math.floor((document.body.clientWidth - 70) / step)));
   const held = node("div", {class: "wide"}), list = node("div", {class: "wide"}), kinds = [...new Set(found.events.map(event => event[1]))];
+  const range = node("input", {type: "range", min: 0, max: total - count, value: state.event, "aria-label": "first event", oninput: event => move(Number(event.target.value))});
   const move = first => {
     state.event = Math.max(0, Math.min(total - count, first));
+    range.value = state.event;
     held.replaceChildren(lanes(report, found, state.event, count, step));
-    list.replaceChildren(eventTable(found, state.event, count));
+    list.replaceChildren(eventTable(report, found, state.event, count));
   };
-  section.append(node("p", {class: "dim"}, found.order + (found.left ? `; ${found.left} more are left out of this page` : "")),
+  drawEvents = at => move(at && (at.number < state.event || at.number >= state.event + count) ? at.number - (count >> 1) : state.event);
+  section.append(node("p", {class: "dim"}, found.order + (found.left ? `; ${found.left} more are left out of this page` : "") + ". A click on one shows the shared words after it."),
     node("div", {class: "legend"}, ...kinds.map(kind => node("span", {}, node("span", {class: "key", style: `background: ${COLOURS[kind]}`}), ` ${kind}`))), held);
-  if (total > count) {
-    section.append(node("input", {type: "range", min: 0, max: total - count, value: state.event, "aria-label": "first event",
-      oninput: event => move(Number(event.target.value))}));
-  }
-  section.append(node("details", {}, node("summary", {}, "these events as a table"), list));
+  if (total > count) section.append(range);
+  section.append(node("details", {open: report.threads.some(thread => thread.at)}, node("summary", {}, "these events as a table"), list));
   move(state.event);
   return section;
 }
 
-function eventTable(found, first, count) {
-  const names = ["event", "thread", "kind", "place", "a", "b", "answer"];
-  const rows = found.events.map((event, at) => [found.lanes ? event[6] : at, ...event.slice(0, 6)]).filter(row => row[0] >= first && row[0] < first + count);
-  return node("table", {}, node("tr", {}, ...names.map(name => node("th", {}, name))), ...rows.map(row => node("tr", {}, ...row.map(value => node("td", {}, String(value))))));
+const isNarrow = () => document.body.clientWidth < 600;
+
+// of a history the words with the most events, as many as the page has room for, and after each event their digits
+function wordColumns(report, found) {
+  const all = report.history ? found.events.filter(event => AFTER[event[1]]).map(event => event[2]) : [], counts = {};
+  for (const word of all) counts[word] = (counts[word] || 0) + 1;
+  const numbers = Object.keys(counts).map(Number), threads = report.threads.length;
+  const most = isNarrow() ? (numbers.length > 2 || threads > 2 ? 0 : 2) : threads > 3 ? 4 : 8;
+  const words = numbers.sort((one, two) => counts[two] - counts[one] || one - two).slice(0, most).sort((one, two) => one - two);
+  const now = {}, rows = found.events.map(([, ...event]) => {
+    Object.assign(now, wordsAfter([event]));
+    return words.map(word => now[word] || "0".repeat(16));
+  });
+  return {words, rows};
+}
+
+// a row for each event, or for the events of one number, with a column for each thread
+function eventTable(report, found, first, count) {
+  const rows = [...Array(count).keys()].map(() => report.threads.map(() => null)), beside = wordColumns(report, found);
+  for (const event of found.events) {
+    if (event[6] >= first && event[6] < first + count) rows[event[6] - first][event[0]] = event;
+  }
+  const word = (digits, at, number) => {
+    const before = number ? beside.rows[number - 1][at] : "0".repeat(16);
+    return node("td", {class: "word" + (digits === before ? " dim" : ""), title: `0x${digits}`}, text64(digits));
+  };
+  // where an event was made: function and line, and the line's text or the instruction
+  const where = event => {
+    const place = placeOf(event), line = place && place.line || [];
+    const name = place ? [place.line && line[0] || place.address, line[1]].filter(Boolean).join(" ") : "";
+    return [name && node("div", {class: "dim"}, name), (line[3] || line[2]) && node("div", {class: "source", title: line[2]}, line[3] || line[2])].filter(Boolean);
+  };
+  // the lanes of many threads are narrow, so the place stands behind them; a narrow screen has no room for more than two, and has one for all
+  const isOne = report.history && isNarrow() && report.threads.length > 2, isBehind = report.history && !isOne && report.threads.length > 3;
+  const cell = event => {
+    if (!event) return node("td", {});
+    const at = {thread: event[0], number: event[6]};
+    return node("td", {class: "event" + (isChosen(event) ? " chosen" : ""), tabindex: 0, style: `border-left-color: ${COLOURS[event[1]]}`, onclick: () => choose(at),
+      onkeydown: key => { if (key.key === "Enter") choose(at); }}, eventWords(event), ...(isBehind ? [] : where(event)));
+  };
+  const lanesOf = isOne ? ["thread", ""] : report.threads.map((_, thread) => `thread ${thread}`);
+  const inLanes = row => isOne ? row.filter(Boolean).flatMap(event => [node("td", {class: "dim"}, String(event[0])), cell(event)]) : row.map(cell);
+  const heads = ["event", ...beside.words.map(number => `word ${number}`), ...lanesOf, ...(isBehind ? ["place"] : [])];
+  return node("table", {class: "lanes" + (isBehind ? " many" : "")}, node("tr", {}, ...heads.map(name => node("th", {}, name))), ...rows.map((row, at) => node("tr", {},
+    node("td", {class: "dim"}, String(first + at)), ...(beside.rows[first + at] || []).map((digits, column) => word(digits, column, first + at)), ...inLanes(row),
+    ...(isBehind ? [node("td", {}, ...row.filter(Boolean).flatMap(where))] : []))));
 }
 
 // ---- the page
 
 function choice(name, title, values, labels) {
   return node("fieldset", {}, node("legend", {}, title), ...values.map((value, at) => node("label", {}, node("input", {type: "radio", name, value: String(value),
-    checked: String(state[name]) === String(value), onchange: () => { state[name] = value; show(); }}), labels ? labels[at] : value)));
+    checked: String(state[name]) === String(value), onchange: () => { state[name] = value; state.at = name === "report" ? null : state.at; show(); }}), labels ? labels[at] : value)));
 }
 
 function show() {
@@ -332,15 +465,20 @@ function show() {
   if (data.reports.length > 1) choices.append(choice("report", "report", [0, 1], data.names));
   choices.append(choice("size", "elements", Object.keys(SIZES)), choice("how", "numbers", ["signed", "unsigned", "hex"]));
   if (data.reports.length > 1) choices.append(node("span", {}, node("span", {class: "key differs"}), " differs"));
-  const parts = thread ? [output(), za(), vectors(), predicates(), registers("Registers", registersOf), registers("Kernel", kernelOf)]
+  const parts = thread ? [headline(), output(), za(), vectors(), predicates(), registers("Registers", registersOf), registers("Kernel", kernelOf)]
     : [node("p", {}, "this report has no such thread")];
-  document.getElementById("panel").replaceChildren(...[choices, ...parts, words(), events()].filter(it => it !== null));
+  const shared = words(), rest = events(), all = [...parts, shared, rest].filter(it => it !== null);
+  const zero = all.map(it => it.zero).filter(Boolean), empty = [...all.map(it => it.said), zero.length && `all zero: ${zero.join(", ")}`].filter(Boolean);
+  const held = node("div", {id: "words"}, ...[shared].filter(isDrawn)), made = [rest].filter(isDrawn);
+  const line = empty.length ? [node("section", {id: "empty", class: "dim"}, empty.join("; "))] : [];
+  const [first, ...others] = parts.filter(isDrawn), own = [first, ...line, ...others];
+  document.getElementById("panel").replaceChildren(...(state.isOrder ? [...made, held, choices, ...own] : [choices, ...own, held, ...made]));
 }
 
 for (const row of document.querySelectorAll("#threads tbody tr")) {
-  const choose = () => { state.thread = Number(row.dataset.thread); show(); };
-  row.addEventListener("click", choose);
-  row.addEventListener("keydown", event => { if (event.key === "Enter") choose(); });
+  const take = () => { state.thread = Number(row.dataset.thread); show(); };
+  row.addEventListener("click", take);
+  row.addEventListener("keydown", event => { if (event.key === "Enter") take(); });
 }
 let width = document.body.clientWidth;
 window.addEventListener("resize", () => { if (width !== document.body.clientWidth) { width = document.body.clientWidth; show(); } });
