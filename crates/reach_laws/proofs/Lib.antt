@@ -1,0 +1,17 @@
+pub mod Fits
+pub mod Typed
+pub mod Scalars
+pub mod Values
+pub mod ScalarSteps
+pub mod Bytes
+pub mod Memory
+pub mod Accesses
+pub mod Registers
+pub mod Vectors
+pub mod Arrays
+pub mod VectorAccesses
+pub mod Modes
+pub mod Machine
+pub mod Frames
+pub mod Kernel
+pub mod Reach
