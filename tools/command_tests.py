@@ -68,7 +68,7 @@ def try_helps(tests):
     commands, options = commands_of(whole)
     tests.check("commands and options", [len(commands) > 10, len(options)], [True, 6])
     shown = tests.run(tests.wrapper, "--help")[1]
-    tests.check("--help", [shown.startswith(whole), re.findall(r"(?m)^  ([a-z-]+) ", shown[len(whole):])], [True, list(verbs.SCRIPTS)])
+    tests.check("--help", [shown.startswith(whole), re.findall(r"(?m)^  ([a-z][a-z-]*) ", shown[len(whole):])], [True, list(verbs.SCRIPTS)])
     tests.check("scripts and commands", set(commands) & set(verbs.SCRIPTS), set())
     for name, words in commands.items():
         given = ["1" if word in ("N", "THREAD", "COUNT") else "absent" for word in words]

@@ -40,16 +40,25 @@ def find():
 
 
 def call(words, given=b"", is_over=None):
-    """What the emulator writes for these words, with `given` as its input, or Refused. Where `is_over` comes to say so, Interrupted."""
-    with tempfile.TemporaryFile() as source:
-        # a file, since what is left of a long text is not written to a pipe after a time-out
+    """What the emulator writes for these words, of which /dev/stdin is a file with `given`, or Refused. Where `is_over` comes to say so, Interrupted."""
+    with tempfile.NamedTemporaryFile(prefix="smemu-") as source:
+        # a name of its own, since /dev/stdin leads through /proc, which a root may lack
         source.write(given)
-        source.seek(0)
-        process = subprocess.Popen([str(word) for word in words], stdin=source, stdout=subprocess.PIPE)
+        source.flush()
+        names = [source.name if word == "/dev/stdin" else str(word) for word in words]
+        process = subprocess.Popen(names, stdin=subprocess.DEVNULL, stdout=subprocess.PIPE)
+        written = output_of(process, is_over)
+    if process.returncode:
+        text = written.decode(errors="replace").strip() if process.returncode != 8 else "there is no memory left"
+        raise Refused(text or f"the emulator ended with status {process.returncode}", process.returncode)
+    return written
+
+
+def output_of(process, is_over):
+    """What a process writes until it ends."""
     while True:
         try:
-            written, _ = process.communicate(timeout=0.1 if is_over else None)
-            break
+            return process.communicate(timeout=0.1 if is_over else None)[0]
         except subprocess.TimeoutExpired:
             if is_over():
                 process.kill()
@@ -58,10 +67,6 @@ def call(words, given=b"", is_over=None):
         except BaseException:
             process.kill()
             raise
-    if process.returncode:
-        text = written.decode(errors="replace").strip() if process.returncode != 8 else "there is no memory left"
-        raise Refused(text or f"the emulator ended with status {process.returncode}", process.returncode)
-    return written
 
 
 def end_with(main):

@@ -1,15 +1,20 @@
 #!/usr/bin/env python3
-"""Writes the manual page of smemu, of what `--help` says and of docs/COMMAND.md.
+"""Writes the manual page of smemu, of what `--help` says and of docs/COMMAND.md, or that of the scripts, of
+what the help of each says.
 
-    tools/manual.py > smemu.1; man ./smemu.1
+    tools/manual.py [--scripts] > smemu.1; man ./smemu.1
 
-Nothing installs it. SMEMU may name the emulator whose help it is.
+`./smemu --install` installs both. SMEMU may name the emulator whose help it is.
 """
+import argparse
 import os
 import pathlib
 import re
 import subprocess
 import sys
+
+sys.dont_write_bytecode = True
+import verbs
 
 TOP = pathlib.Path(__file__).resolve().parent.parent
 SMEMU = os.environ.get("SMEMU") or str(TOP / "smemu")
@@ -64,14 +69,44 @@ def page(text):
             yield from (formatted(re.sub(r"^- ", "* ", line.strip())) for line in lines)
 
 
+def head(name, text):
+    """What a page begins with: the program's version, its name, and what it does."""
+    version = said(SMEMU, "--version").strip()
+    return ["'\\\" t", f'.TH {name.upper()} 1 "" "{version}"', ".SH NAME", f"{name} \\- {plain(text)}"]
+
+
+def said(*words):
+    environment = {**os.environ, "COLUMNS": "80"}
+    return subprocess.run(words, check=True, stdout=subprocess.PIPE, text=True, env=environment).stdout
+
+
+def of_command():
+    """The page of the command."""
+    first, _, rest = said(SMEMU, "--help").partition("\n\n")
+    words = re.findall(r"^  (\S+(?: [A-Z]+)*)", rest.partition("\n\n")[0], re.M)
+    lines = [*head("smemu", first[len("smemu "):].rstrip(".")), ".SH SYNOPSIS", ".nf",
+             *(f"\\fBsmemu\\fR {plain(line)}" for line in words), ".fi",
+             ".SH SUMMARY", ".EX", *map(plain, rest.rstrip().split("\n")), ".EE"]
+    text = (TOP / "docs" / "COMMAND.md").read_text().replace("# The command\n", "# Description\n", 1)
+    lines += [*page(text), ".SH SEE ALSO", r"\fBsmemu\-scripts\fR(1)"]
+    return "\n".join(lines) + "\n"
+
+
+def of_scripts():
+    """The page of the scripts: what the help of each says."""
+    lines = [*head("smemu-scripts", "the words of smemu that are scripts"), ".SH DESCRIPTION",
+             "These words of", r"\fBsmemu\fR(1)", "are scripts, which ask its commands. No theorem covers them."]
+    for verb in verbs.SCRIPTS:
+        help_lines = said(sys.executable, str(TOP / "tools" / "verbs.py"), verb, "--help").rstrip().split("\n")
+        lines += [f".SH {plain(verb.upper())}", ".EX", *map(plain, help_lines), ".EE"]
+    lines += [".SH SEE ALSO", r"\fBsmemu\fR(1)"]
+    return "\n".join(lines) + "\n"
+
+
 def main():
-    said = subprocess.run([SMEMU, "--help"], check=True, stdout=subprocess.PIPE, text=True).stdout
-    version = subprocess.run([SMEMU, "--version"], check=True, stdout=subprocess.PIPE, text=True).stdout.strip()
-    first, _, rest = said.partition("\n\n")
-    print("'\\\" t", f'.TH SMEMU 1 "" "{version}"', ".SH NAME", f"smemu \\- {plain(first[len('smemu '):].rstrip('.'))}", sep="\n")
-    print(".SH SYNOPSIS", ".nf", *(f"\\fBsmemu\\fR {plain(line)}" for line in re.findall(r"^  (\S+(?: [A-Z]+)*)", rest.partition("\n\n")[0], re.M)), ".fi", sep="\n")
-    print(".SH SUMMARY", ".EX", *map(plain, rest.rstrip().split("\n")), ".EE", sep="\n")
-    print(*page((TOP / "docs" / "COMMAND.md").read_text().replace("# The command\n", "# Description\n", 1)), sep="\n")
+    words = argparse.ArgumentParser(description=__doc__.partition("\n\n")[0])
+    words.add_argument("--scripts", action="store_true", help="the page of the scripts")
+    print(of_scripts() if words.parse_args().scripts else of_command(), end="")
     return 0
 
 

@@ -467,7 +467,7 @@ def helping(folder):
     for word in ("--help", "-h", "help"):
         status, text, said = ran(smemu, word)
         own, _, scripts = text.partition("\nscripts, ")
-        yield f"the words {word}", (status, own, re.findall(r"(?m)^  ([a-z-]+) ", scripts), "no theorem covers them" in scripts, said), (
+        yield f"the words {word}", (status, own, re.findall(r"(?m)^  ([a-z][a-z-]*) ", scripts), "no theorem covers them" in scripts, said), (
             0, HELP, list(verbs.SCRIPTS), True, "")
     for command, wanted in HELPS.items():
         for word in ("--help", "-h"):

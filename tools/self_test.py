@@ -38,7 +38,7 @@ DIFFERING = "altered_steps.txt"
 FAILING = "failing.txt"
 # the cases of a task
 CASES = 200
-SCRIPTS = ("script_tests.py", "beside_tests.py", "command_tests.py", "host_tests.py")
+SCRIPTS = ("script_tests.py", "beside_tests.py", "command_tests.py", "install_tests.py", "host_tests.py")
 
 
 class Result:
