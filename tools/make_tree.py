@@ -5,6 +5,7 @@
 
 Run it after a change of the rows; it takes some seconds. Nothing rests on it: the proofs test the trees against the rows.
 """
+import argparse
 import functools
 import pathlib
 import re
@@ -87,9 +88,16 @@ def lines_of(items):
     return textwrap.fill(" ".join(items), 99, initial_indent="    ", subsequent_indent="    ").replace("~", " ")
 
 
-for table, decoder in (("a64_table", "a64_decode"), ("sve_table", "sve_decode")):
-    rows = [(int(mask, 16), int(value, 16)) for mask, value in ROW.findall((CRATES / table / "src" / "rows.rt").read_text())]
-    tree = Tree(rows)
-    file = CRATES / decoder / "src" / "tree.rt"
-    file.write_text(file.read_text().partition(MARK)[0] + tree.text())
-    print(decoder, len(rows), "rows", len(tree.nodes), "nodes")
+def main():
+    words = argparse.ArgumentParser(description=__doc__, formatter_class=argparse.RawDescriptionHelpFormatter)
+    words.parse_args()
+    for table, decoder in (("a64_table", "a64_decode"), ("sve_table", "sve_decode")):
+        rows = [(int(mask, 16), int(value, 16)) for mask, value in ROW.findall((CRATES / table / "src" / "rows.rt").read_text())]
+        tree = Tree(rows)
+        file = CRATES / decoder / "src" / "tree.rt"
+        file.write_text(file.read_text().partition(MARK)[0] + tree.text())
+        print(decoder, len(rows), "rows", len(tree.nodes), "nodes")
+
+
+if __name__ == "__main__":
+    main()
