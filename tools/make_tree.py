@@ -25,8 +25,8 @@ class Tree:
 
     def __init__(self, rows):
         self.rows, self.nodes, self.blocks = rows, [], {}
-        self.best = functools.cache(self.best)
-        self.having = functools.cache(self.having)
+        self.best = functools.lru_cache(None)(self.best)
+        self.having = functools.lru_cache(None)(self.having)
 
     def having(self, low, width):
         """For each number of these bits the rows that may have it."""
@@ -42,7 +42,7 @@ class Tree:
             for low in range(33 - width if steps > 1 and 1 << width < best[0] else 0):
                 parts = {left & part for part in self.having(low, width)}
                 if left not in parts:
-                    cost = (1 << width) + 4 * left.bit_count() + sum(self.best(part, steps - 1)[0] for part in parts)
+                    cost = (1 << width) + 4 * bin(left).count("1") + sum(self.best(part, steps - 1)[0] for part in parts)
                     best = min(best, (cost, low, width))
         return best
 

@@ -5,9 +5,12 @@
 
 What follows the word are the script's own words.
 """
+from __future__ import annotations
+
 import ast
 import importlib
 import sys
+from typing import Any
 
 from smemu_tools import TOP
 from smemu_tools.user import emulator
@@ -20,7 +23,7 @@ OTHERS = {
     "user": ("at-fault", "completions", "install", "manual", "vectors"),
     "model": ("expected", "expected-answers", "expected-ckpt", "expected-debug", "expected-replay", "workload", "world"),
     "rows": ("lane-steps", "make-rows", "marked-calls", "vector-edges", "vector-files", "vector-lines", "word-steps"),
-    "gate": ("build", "compilers", "copies", "cores", "count", "edges", "make-table", "mnemonics", "pages", "release",
+    "gate": ("build", "compilers", "copies", "cores", "count", "edges", "lint", "make-table", "mnemonics", "pages", "release",
              "sizes", "times", "wrong-bodies"),
     "tests": ("beside-tests", "changed-files", "command-tests", "doc-tests", "fault-tests", "host-tests",
               "install-tests", "plant-faults", "profile-tests", "random-loops", "random-vectors", "refuse-growth",
@@ -30,14 +33,14 @@ MODULES = {**{word: f"user.{name}" for word, name in SCRIPTS.items()},
            **{word: f"{group}.{word.replace('-', '_')}" for group, words in OTHERS.items() for word in words}}
 
 
-def first_sentence(word):
+def first_sentence(word: Any) -> Any:
     """What a script says that it does."""
     path = TOP / "tools" / "smemu_tools" / (MODULES[word].replace(".", "/") + ".py")
     text = ast.get_docstring(ast.parse(path.read_text())) or ""
     return " ".join(text.partition("\n\n")[0].split())
 
 
-def show_words():
+def show_words() -> None:
     """Lists the words of this installation, or of the repository."""
     print("usage: smemu-tools WORD ..", "", "The words; WORD --help says more:", sep="\n")
     for word, name in MODULES.items():
@@ -45,7 +48,7 @@ def show_words():
             print(f"  {word:16} {first_sentence(word)}")
 
 
-def main():
+def main() -> Any:
     word = sys.argv[1] if len(sys.argv) > 1 else "--help"
     if word in ("-h", "--help"):
         return show_words()

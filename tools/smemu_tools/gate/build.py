@@ -8,6 +8,8 @@ memory for; crates of tests are left out. What is proved stays in the crates' ou
 `rt` lets one run at a time work in a crate's folder and in those below it. So each run has a tree of its own, out/tree in its
 crate's folder, in which the files of the crates below are links to what is proved.
 """
+from __future__ import annotations
+
 import fcntl
 import os
 import shutil
@@ -16,6 +18,7 @@ import subprocess
 import sys
 import tempfile
 import time
+from typing import Any
 
 from smemu_tools import TOP, parser
 
@@ -25,7 +28,7 @@ PROGRAM = "smemu_cli"
 EACH = 2_500_000_000
 
 
-def read_crates():
+def read_crates() -> tuple[dict[str, str], dict[str, list[str]]]:
     """The lines of crates.txt by crate, and the crates of the repository that each one uses."""
     rows = [line.partition("#")[0].strip() for line in (TOP / "crates.txt").read_text().splitlines()]
     lines = {row.partition(":")[0].split()[0]: row for row in rows if row}
@@ -35,7 +38,7 @@ def read_crates():
 LINES, USES = read_crates()
 
 
-def below(name):
+def below(name: str) -> list[str]:
     """The crates below one, each after those that it uses."""
     found = []
     for it in USES[name]:
@@ -43,7 +46,7 @@ def below(name):
     return found
 
 
-def urgency(needed):
+def urgency(needed: Any) -> Any:
     """For each crate how many lines there are to prove from it to the program, by the longest way."""
     found = {}
     for name in reversed(needed):
@@ -53,7 +56,7 @@ def urgency(needed):
     return found
 
 
-def slots():
+def slots() -> Any:
     """How many runs may work at once."""
     try:
         free = int(next(line for line in open("/proc/meminfo") if line.startswith("MemAvailable")).split()[1]) * 1024
@@ -62,18 +65,18 @@ def slots():
     return max(1, min(len(os.sched_getaffinity(0)), free // EACH))
 
 
-def link(source, target):
+def link(source: Any, target: Any) -> None:
     try:
         os.link(source, target)
     except OSError:
         shutil.copy2(source, target)
 
 
-def tree_of(name):
+def tree_of(name: Any) -> Any:
     return CRATES / name / "out" / "tree"
 
 
-def take_back(name):
+def take_back(name: Any) -> None:
     """Moves what a run has made from its tree to the crate's folder, and removes the tree."""
     made = tree_of(name) / "crates" / name / "out"
     for kept in made.iterdir() if made.is_dir() else ():
@@ -82,7 +85,7 @@ def take_back(name):
     shutil.rmtree(tree_of(name), ignore_errors=True)
 
 
-def make_tree(name):
+def make_tree(name: Any) -> Any:
     """Makes the tree in which a crate is proved."""
     take_back(name)
     tree, under = tree_of(name), below(name)
@@ -99,7 +102,7 @@ def make_tree(name):
     return tree / "crates" / name
 
 
-def lock():
+def lock() -> Any:
     """Waits until no other build runs here, nor what one has left running."""
     held = os.open(TOP / "tools", os.O_RDONLY)
     try:
@@ -113,15 +116,15 @@ def lock():
 class Run:
     """A run of rt in a folder, with what it prints. It holds the lock too, as it may outlive a build that is killed."""
 
-    def __init__(self, held, folder, *words):
+    def __init__(self, held: Any, folder: Any, *words: Any) -> None:
         self.log = tempfile.TemporaryFile()
         self.process = subprocess.Popen(["rt", *words], cwd=folder, stdin=subprocess.DEVNULL, stdout=self.log, stderr=self.log, pass_fds=[held])
 
-    def was_killed(self):
+    def was_killed(self) -> Any:
         """Tells whether it was killed, or ended as rattle was."""
         return self.process.returncode in (-signal.SIGKILL, 256 - signal.SIGKILL)
 
-    def said(self):
+    def said(self) -> Any:
         self.log.seek(0)
         return self.log.read().decode(errors="replace")
 
@@ -129,33 +132,33 @@ class Run:
 class Progress:
     """One line that is rewritten on a terminal, and elsewhere one for each crate."""
 
-    def __init__(self, count):
+    def __init__(self, count: Any) -> None:
         self.count, self.done, self.start, self.is_terminal = count, 0, time.monotonic(), sys.stderr.isatty()
         self.say("smemu: building the emulator; each crate is proved first, which takes some 20 minutes on four cores; it may be interrupted, and the next start goes on\n")
 
-    def say(self, text):
+    def say(self, text: Any) -> None:
         sys.stderr.write(text)
         sys.stderr.flush()
 
-    def time(self):
+    def time(self) -> Any:
         minutes, seconds = divmod(int(time.monotonic() - self.start), 60)
         return f"{minutes}:{seconds:02}"
 
-    def show(self, running):
+    def show(self, running: Any) -> None:
         if self.is_terminal:
             line = f"smemu: {self.done} of {self.count} crates proved after {self.time()}, now {', '.join(running)}"
             self.say(f"\r{line[:shutil.get_terminal_size().columns - 1]}\033[K")
 
-    def proved(self, name):
+    def proved(self, name: Any) -> None:
         self.done += 1
         if not self.is_terminal:
             self.say(f"smemu: {self.done} of {self.count} crates proved after {self.time()}: {name}\n")
 
-    def end(self, text):
+    def end(self, text: Any) -> None:
         self.say("\r\033[K" * self.is_terminal + f"smemu: {text}\n")
 
 
-def build(needed, running, progress, held):
+def build(needed: Any, running: Any, progress: Any, held: Any) -> Any:
     """Proves the crates, and links the program. The answer is what went wrong."""
     left, most, most_lines = list(needed), slots(), urgency(needed)
     while left or running:
@@ -186,7 +189,7 @@ def build(needed, running, progress, held):
     (CRATES / PROGRAM / "out" / PROGRAM).touch()
 
 
-def main():
+def main() -> Any:
     parser(__doc__).parse_args()
     held, needed = lock(), [*below(PROGRAM), PROGRAM]
     running, progress = {}, Progress(len(needed))

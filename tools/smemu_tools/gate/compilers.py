@@ -6,6 +6,8 @@ Compiles each routine of bench/c by each compiler that is installed and each set
 where `smemu dis` takes it; one that is loaded runs at 128, 512 and 2048 bits, and its output and its exit status are compared with
 those of QEMU (10 for streaming code). With --words the mnemonics of the words that were refused follow, with the number of programs.
 """
+from __future__ import annotations
+
 import argparse
 import collections
 import concurrent.futures
@@ -15,6 +17,7 @@ import shutil
 import subprocess
 import sys
 import tempfile
+from typing import Any
 
 from smemu_tools import TOOL, TOP
 
@@ -45,17 +48,17 @@ SETS = [
 ]
 
 
-def said(*words):
+def said(*words: Any) -> Any:
     return subprocess.run(words, capture_output=True, text=True)
 
 
-def refused_words(smemu, program):
+def refused_words(smemu: Any, program: Any) -> Any:
     """The mnemonics of the words that are refused."""
     lines = said(sys.executable, str(TOOL), "refused", program, "--smemu", smemu).stdout.splitlines()
     return [line.split(": ", 1)[1].split()[0] for line in lines if line.startswith("0x")]
 
 
-def trial(asked, folder, kind, compiler, options, number):
+def trial(asked: Any, folder: Any, kind: Any, compiler: Any, options: Any, number: Any) -> Any:
     """What became of a routine: a word, and the mnemonics that were refused."""
     name = f"{folder}/{kind}-{number}-{abs(hash((compiler, options)))}"
     command = [*compiler, *ALWAYS.split()]
@@ -77,7 +80,7 @@ def trial(asked, folder, kind, compiler, options, number):
     return "as QEMU", []
 
 
-def main():
+def main() -> None:
     parser = argparse.ArgumentParser(description=__doc__.split("\n")[0])
     parser.add_argument("--qemu", default="qemu-aarch64")
     parser.add_argument("--smemu", default=str(TOP / "smemu"))

@@ -5,9 +5,12 @@
 Statements are compared as text, with the variables named by their order and their types left out, so what means the same in other words is not seen.
 The status is 0 where there is no copy.
 """
+from __future__ import annotations
+
 import pathlib
 import re
 import shutil
+from typing import Iterator
 
 from smemu_tools import TOP, parser
 
@@ -21,7 +24,7 @@ SAME = {"nat_le": "leb", "nat_lt": "ltb", "slice_index_or": "get_or"}
 BELOW = "sm_types"
 
 
-def plain(text):
+def plain(text: str) -> str | None:
     """A statement with its variables named by their order, or none where it binds none of an ordinary type."""
     text = re.sub(r"^\{ℓ\} ", "", " ".join(text.split())).replace("Type ℓ", "Type 0")
     text = re.sub(r"◌≡◌ \{A = [^{}]*\} \((\w+ \w+)\) \((\w+ \w+)\)", r"\1 ≡ \2", text)
@@ -41,7 +44,7 @@ def plain(text):
     return " ".join(word if word not in order else f"{word[0]}{order[word]}" for word in words) if order else None
 
 
-def statements(paths):
+def statements(paths: list[pathlib.Path]) -> Iterator[tuple[pathlib.Path, str, str | None]]:
     """Each lemma of some files, with its file."""
     for path in paths:
         for name, text in SIGNATURE.findall(path.read_text()):
@@ -49,7 +52,7 @@ def statements(paths):
                 yield path, name, plain(text)
 
 
-def main():
+def main() -> bool:
     parser(__doc__).parse_args()
     ours = sorted((TOP / "crates" / "plain_lemmas" / "proofs").glob("*.antt"))
     pages = sorted((KIT / "rattle" / "std" / "lemmas").rglob("*.md"))

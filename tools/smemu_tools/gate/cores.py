@@ -6,6 +6,8 @@ PROGRAM is the emulator, by default the one that ./smemu runs. Four threads of a
 vector instructions at 512 bits, on one core and on four; two threads on one and on two, thirty times; eight threads that add to one shared
 word; four threads that end at once, which is what it costs to start workers. What else the machine does shows in the load.
 """
+from __future__ import annotations
+
 import argparse
 import os
 import pathlib
@@ -13,6 +15,7 @@ import resource
 import subprocess
 import tempfile
 import time
+from typing import Any
 
 from smemu_tools.gate.times import GROWN, TWELVE, emulator, vector_source
 from smemu_tools.model.elf import elf
@@ -40,7 +43,7 @@ next:
 RUNS = 7
 
 
-def times(program, path, *options):
+def times(program: Any, path: Any, *options: Any) -> Any:
     """By the clock and by the processor's time, of one run whose report is thrown away."""
     before = resource.getrusage(resource.RUSAGE_CHILDREN)
     start = time.perf_counter()
@@ -50,20 +53,20 @@ def times(program, path, *options):
     return wall, after.ru_utime + after.ru_stime - before.ru_utime - before.ru_stime
 
 
-def best(program, path, *options, runs=RUNS):
+def best(program: Any, path: Any, *options: Any, runs: Any = RUNS) -> Any:
     """The least of each, over some runs."""
     walls, used = zip(*(times(program, path, *options) for _ in range(runs)))
     return min(walls), min(used)
 
 
-def compare(program, name, path, threads, cores, *options):
+def compare(program: Any, name: Any, path: Any, threads: Any, cores: Any, *options: Any) -> None:
     one, one_used = best(program, path, "--threads", threads, *options)
     more, more_used = best(program, path, "--threads", threads, "--cores", cores, *options)
     print(f"{name}: {threads} threads on one core {one:.3f} s ({one_used:.3f} s of the processor), on {cores} {more:.3f} s "
           f"({more_used:.3f} s): {one / more:.2f} times as fast")
 
 
-def assembled(program, folder, name, source):
+def assembled(program: Any, folder: Any, name: Any, source: Any) -> Any:
     path = folder / f"{name}.s"
     path.write_text(source)
     made = folder / f"{name}.elf"
@@ -71,7 +74,7 @@ def assembled(program, folder, name, source):
     return made
 
 
-def main():
+def main() -> None:
     words = argparse.ArgumentParser(description=__doc__.partition("\n\n")[0])
     words.add_argument("program", nargs="?", type=pathlib.Path, metavar="PROGRAM")
     program = emulator(words.parse_args().program)

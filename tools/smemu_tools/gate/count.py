@@ -14,6 +14,8 @@ the replay of the same loop needs, where that makes no calls; and a `break` at a
 debugger begins with, more than 1.5 times what `run` needs. Where valgrind is not installed nothing is compared.
 --store writes that file.
 """
+from __future__ import annotations
+
 import argparse
 import concurrent.futures
 import os
@@ -22,6 +24,7 @@ import re
 import shutil
 import subprocess
 import tempfile
+from typing import Any, Iterator
 
 from smemu_tools import TOP
 from smemu_tools.gate.loops import ABI_CHECKED, ANSWERED, CHECKED, LOOPS, MORE, REPLAYED, SEARCHED, UNMET
@@ -39,7 +42,7 @@ MOST_OF_RUN = 1.5
 VALGRIND = ["valgrind", "--tool=callgrind", "--callgrind-out-file=/dev/null"]
 
 
-def count(*words):
+def count(*words: Any) -> Any:
     """The processor's instructions from the start of a command to its end."""
     done = subprocess.run([*VALGRIND, *map(str, words)], stdin=subprocess.DEVNULL, capture_output=True, text=True, errors="replace")
     counted = re.search(r"Collected : (\d+)", done.stderr)
@@ -48,12 +51,12 @@ def count(*words):
     return int(counted[1])
 
 
-def said(program, *words):
+def said(program: Any, *words: Any) -> Any:
     """What the emulator writes."""
     return subprocess.run([program, *map(str, words)], check=True, stdout=subprocess.PIPE).stdout
 
 
-def over_report(command, budget, script, path, report):
+def over_report(command: Any, budget: Any, script: Any, path: Any, report: Any) -> Any:
     """The words of a command over a report; of the debugger those of a script that stays at the start, or goes to an address of no instruction."""
     if command in ("debug", "break"):
         script.write_text("where\n" if command == "debug" else "break 0x0\n")
@@ -61,12 +64,12 @@ def over_report(command, budget, script, path, report):
     return (command, path, report, 0, *([budget - 1] if command == "ckpt" else []))
 
 
-def figure(program, name):
+def figure(program: Any, name: Any) -> Any:
     """How many instructions of the processor a program needs for one of a loop."""
     loop, counts = {**LOOPS, **MORE}[name], []
     with tempfile.TemporaryDirectory() as folder:
         path, source, report = (pathlib.Path(folder) / part for part in ("loop.elf", "loop.s", "loop.report"))
-        code = loop.code
+        code: Any = loop.code
         if isinstance(code, str):
             source.write_text(code)
             code = said(program, "asm", source)
@@ -80,14 +83,14 @@ def figure(program, name):
     return (counts[1] - counts[0]) / (loop.budgets[1] - loop.budgets[0])
 
 
-def figures(program, text="", more=False):
+def figures(program: Any, text: Any = "", more: Any = False) -> Any:
     """The figures of a program by the names of the loops that have a text."""
     names = [name for name in (*LOOPS, *(MORE if more else ())) if text in name]
     with concurrent.futures.ThreadPoolExecutor(len(os.sched_getaffinity(0))) as pool:
         return dict(zip(names, pool.map(lambda name: figure(program, name), names)))
 
 
-def put_released(folder):
+def put_released(folder: Any) -> Any:
     """Puts the released program into a folder."""
     program, packed_file, _ = stated()
     path = folder / "released"
@@ -96,7 +99,7 @@ def put_released(folder):
     return path
 
 
-def show(words, program, folder):
+def show(words: Any, program: Any, folder: Any) -> Any:
     """Prints the figures of a program beside those of the release."""
     now, before = figures(program, words.only, words.more), figures(put_released(folder), words.only, words.more)
     print(f"{'instructions of the processor for one of':55}{'now':>10}{'released':>10}{'ratio':>8}")
@@ -105,7 +108,7 @@ def show(words, program, folder):
     return 0
 
 
-def limits_of(now):
+def limits_of(now: Any) -> Iterator[Any]:
     """What figures may be beside each other: what is measured, what it needs, and how much it may need."""
     for name in CHECKED:
         if name not in WITH_CALLS:
@@ -113,7 +116,7 @@ def limits_of(now):
     yield SEARCHED + UNMET, now[SEARCHED + UNMET] - now[SEARCHED + ANSWERED], MOST_OF_RUN * now[SEARCHED]
 
 
-def check(_words, program, _folder):
+def check(_words: Any, program: Any, _folder: Any) -> Any:
     """Compares the figures of a program with the stored ones."""
     lines = [line.split(None, 1) for line in STORED.read_text().splitlines() if not line.startswith("#")]
     limits, now = {name: float(limit) for limit, name in lines}, figures(program)
@@ -133,12 +136,12 @@ def check(_words, program, _folder):
     return 1 if faults else 0
 
 
-def store(_words, program, _folder):
+def store(_words: Any, program: Any, _folder: Any) -> Any:
     STORED.write_text(HEAD + "".join(f"{found:.1f} {name}\n" for name, found in figures(program).items()))
     return 0
 
 
-def main():
+def main() -> Any:
     words = argparse.ArgumentParser(description=__doc__.partition("\n\n")[0])
     what = words.add_mutually_exclusive_group()
     what.add_argument("--check", dest="act", action="store_const", const=check, default=show)

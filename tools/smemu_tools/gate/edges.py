@@ -6,7 +6,10 @@ arrows is no edge, which name in backticks stands in no source, and which link l
 
 A library that no file names is read for nothing by every check of the crate and of those above it. The status is 0 where nothing is at fault.
 """
+from __future__ import annotations
+
 import re
+from typing import Any, Iterator
 
 from smemu_tools import TOP, parser
 from smemu_tools.gate import sizes
@@ -21,20 +24,20 @@ IN_BACKTICKS = re.compile(r"`([A-Za-z_]\w*(?:(?:::|\.)[A-Za-z_]\w*)*)(?:\(\))?`"
 NO_SOURCE = {"LendsSo", "Survey", "survey", "_other", "setsid"}
 
 
-def edges():
+def edges() -> dict[str, list[str]]:
     """The libraries that each crate lists."""
     rows = [line.partition("#")[0].partition(":") for line in (TOP / "crates.txt").read_text().splitlines()]
     return {head.split()[0]: libraries.split() for head, _, libraries in rows if head.strip()}
 
 
-def names_in(crate):
+def names_in(crate: Any) -> Any:
     """All that the files of a crate name as one names a library."""
     parts = [path for part in ("src", "specs", "proofs") for path in (TOP / "crates" / crate / part).rglob("*")]
     texts = [path.read_text() for path in parts if path.suffix in (".rt", ".antt")]
     return {name for text in texts for found in NAMED.findall(text) for name in found}
 
 
-def edge_faults(listed):
+def edge_faults(listed: Any) -> Iterator[Any]:
     """What is wrong with the lists of libraries."""
     known = set().union(*listed.values(), listed)
     for crate, libraries in listed.items():
@@ -43,7 +46,7 @@ def edge_faults(listed):
         yield from (f"{crate} names {library}, which it does not list" for library in sorted(named & known - {crate, *libraries}))
 
 
-def specification_faults():
+def specification_faults() -> Iterator[Any]:
     """Files of definitions that SPECIFICATION lacks, and files that it names and that are not there."""
     listed = {path for _, files in sizes.parts() for path in files}
     there = {path for path in (TOP / "crates").glob("*/specs/**/*.antt") if path.name != "Lib.antt" and "declared" not in path.parts}
@@ -51,7 +54,7 @@ def specification_faults():
     yield from (f"docs/SPECIFICATION.md names {path.relative_to(TOP / 'crates')}, which is not there" for path in sorted(listed) if not path.exists())
 
 
-def drawing_faults(listed):
+def drawing_faults(listed: Any) -> Iterator[Any]:
     """Crates that stand nowhere before the rooms of ARCHITECTURE, and arrows there that are no edges."""
     lines = (TOP / "docs" / "ARCHITECTURE.md").read_text().partition("\n## Rooms")[0].splitlines()
     drawn = {name for line in lines for name in re.findall(r"\w+", line)}
@@ -62,7 +65,7 @@ def drawing_faults(listed):
             yield from (f"docs/ARCHITECTURE.md draws {it[0]} on {it[1]}, which it does not list" for it in arrows if it[1] not in listed[it[0]])
 
 
-def name_faults(listed):
+def name_faults(listed: Any) -> Iterator[Any]:
     """Names in backticks that stand in no source and are no crate's and no file's."""
     files = [path for part in ("crates", "tools", "examples", "bench") for path in (TOP / part).rglob("*") if "out" not in path.parts and path.is_file()]
     known = NO_SOURCE | set(listed) | {word for path in files for word in re.findall(r"\w+", path.name)}
@@ -73,13 +76,13 @@ def name_faults(listed):
             yield from (f"{page.relative_to(TOP)}:{number} names {name}, which stands in no source" for name in sorted(names - known))
 
 
-def anchors(page):
+def anchors(page: Any) -> Any:
     """The anchors of a page's headings."""
     headings = re.findall(r"^#+ +(.*)", page.read_text(), re.M)
     return {re.sub(r"[^\w\- ]", "", heading.lower()).replace(" ", "-") for heading in headings}
 
 
-def link_faults():
+def link_faults() -> Iterator[Any]:
     """Links of the pages to files and headings that are not there."""
     for page in (TOP / "README.md", TOP / "CONTRIBUTING.md", *sorted((TOP / "docs").glob("*.md"))):
         for target in re.findall(r"\]\(([^)\s]*)\)", page.read_text()):
@@ -89,7 +92,7 @@ def link_faults():
                 yield f"{page.relative_to(TOP)} has a link to {target}, which is not there"
 
 
-def main():
+def main() -> Any:
     parser(__doc__).parse_args()
     listed = edges()
     faults = [*edge_faults(listed), *specification_faults(), *drawing_faults(listed), *name_faults(listed), *link_faults()]

@@ -1,5 +1,8 @@
 """The loops whose instructions of the processor tools/smemu-tools count counts, each by its name."""
+from __future__ import annotations
+
 import typing
+from typing import Any
 
 from smemu_tools.gate.times import ACCESSES, GROWN, MATRIX_LOOPS, MIXED, TWELVE, matrix_source, paged, vector_source
 from smemu_tools.model.elf import elf
@@ -13,7 +16,7 @@ class Loop(typing.NamedTuple):
     command: str = "run"
 
 
-def source_of(body, first="", after=""):
+def source_of(body: Any, first: Any = "", after: Any = "") -> Any:
     """A source of 65,535 turns of lines, which are parted by semicolons, with `subs` and `b.ne`. X1 is the middle of a page of zeros, X9 is 8,
     and SP is a page below its first place."""
     parts = lambda text: "\n    ".join(part.strip() for part in text.split(";"))

@@ -4,7 +4,10 @@ top byte may have (src/shapes.rt with its two lists, items.rt, printed.rt), the 
 It reads the rows and the fields of a64_table and the operands of src/operands.rt, and expands the macros of src/texts.rt. Nothing rests on it:
 `shapes_are_texts` says that each shape is its text, in the order of mnemonics and then of the texts.
 """
+from __future__ import annotations
+
 import re
+from typing import Any
 
 from smemu_tools import TOP, parser
 
@@ -13,12 +16,12 @@ SCALARS, VECTORS = HERE.parent / "a64_table" / "src", HERE.parent / "sve_table" 
 FREE, FACTOR = 65535, 379
 
 
-def read(path):
+def read(path: Any) -> Any:
     return re.sub(r"//.*", "", path.read_text())
 
 
 # ---- fields, rows and operands
-def fields_of(table):
+def fields_of(table: Any) -> Any:
     """The fields of a table by name."""
     found = {}
     for name, places in re.findall(r"pub const (\w+): Field = field!\(([^)]*)\);", read(table / "fields.rt")):
@@ -36,7 +39,7 @@ SOURCE = read(HERE / "src" / "operands.rt")
 VECTOR_SOURCE = read(HERE / "src" / "vector_operands.rt")
 
 
-def number(text):
+def number(text: Any) -> Any:
     return eval(re.sub(r"(\w+)\.(\w+)", lambda m: str(FIELDS[m[1]][m[2]]), text))
 
 
@@ -45,18 +48,18 @@ for name, body in re.findall(r"const (\w+): Field = Field \{(.*?)\};", SOURCE, r
 OPERANDS = dict(re.findall(r"\((\w+)\) => \{\s+operand_of!\((?:Kind::\w+(?: \{.*?\}|\(.*?\))?|\w+), ([\w!():]+?)(?:, \w+)?\)\s+\};",
                            SOURCE.replace("scalar_fields::", "")))
 SCALAR_OPERANDS = set(OPERANDS)
-OPERANDS |= dict(re.findall(r"\((\w+)\) => \{\s+(\w+!\(.*\))\s+\};", VECTOR_SOURCE.replace("scalar_fields::", "")))
+OPERANDS.update(re.findall(r"\((\w+)\) => \{\s+(\w+!\(.*\))\s+\};", VECTOR_SOURCE.replace("scalar_fields::", "")))
 
 
-def by_size(name, size, width):
+def by_size(name: Any, size: Any, width: Any) -> Any:
     """A register's field with the size of its elements, or the lower bits of it, above it."""
     return dict(VECTOR_FIELDS[name], upper_low=VECTOR_FIELDS[size]["low"], upper_width=width)
 
 
-def vector_field(text):
+def vector_field(text: Any) -> Any:
     """The field of an operand of vector_operands.rt."""
     macro, given = re.fullmatch(r"(\w+)!\((.*)\)", text).groups()
-    field = given.split(", ")[-1] if macro != "operand_of" else re.fullmatch(r"Kind::\w+(?: \{.*?\}|\(.*?\))?, ([\w:]+)(?:, \w+)?|\w+, (\w+)(?:, \w+)?", given)
+    field: Any = given.split(", ")[-1] if macro != "operand_of" else re.fullmatch(r"Kind::\w+(?: \{.*?\}|\(.*?\))?, ([\w:]+)(?:, \w+)?|\w+, (\w+)(?:, \w+)?", given)
     if macro == "operand_of":
         name = field[1] or field[2]
         return VECTOR_FIELDS[name[15:]] if name.startswith("vector_fields::") else FIELDS[name]
@@ -64,14 +67,14 @@ def vector_field(text):
         return FIELDS["NONE"]
     if macro == "low_part":
         return VECTOR_FIELDS["VD"]
-    if match := re.fullmatch(r"by_(low_)?size!\((\w+)\)", field):
-        return by_size(match[2], "SIZE", 1 if match[1] else 2)
-    if match := re.fullmatch(r"by_element_size!\((.*)\)", field):
-        return by_size("ZT", "ELEMENT_SIZE", 1 if match[1] == "1" else 2)
-    return VECTOR_FIELDS[field.removeprefix("vector_fields::")]
+    if size := re.fullmatch(r"by_(low_)?size!\((\w+)\)", field):
+        return by_size(size[2], "SIZE", 1 if size[1] else 2)
+    if size := re.fullmatch(r"by_element_size!\((.*)\)", field):
+        return by_size("ZT", "ELEMENT_SIZE", 1 if size[1] == "1" else 2)
+    return VECTOR_FIELDS[field.replace("vector_fields::", "")]
 
 
-def field_of(operand):
+def field_of(operand: Any) -> Any:
     text = OPERANDS[operand]
     if operand not in SCALAR_OPERANDS:
         return vector_field(text)
@@ -81,11 +84,11 @@ def field_of(operand):
     return FIELDS[text]
 
 
-def mask_of(field):
+def mask_of(field: Any) -> Any:
     return ((1 << field["upper_width"]) - 1 << field["upper_low"]) + ((1 << field["width"]) - 1 << field["low"])
 
 
-def placed(field, n):
+def placed(field: Any, n: Any) -> Any:
     return (n >> field["width"] & (1 << field["upper_width"]) - 1) << field["upper_low"] | (n & (1 << field["width"]) - 1) << field["low"]
 
 
@@ -93,7 +96,7 @@ def placed(field, n):
 SCALAR_TEXTS, VECTOR_TEXTS = read(HERE / "src" / "texts.rt"), read(HERE / "src" / "vector_texts.rt")
 
 
-def macro(name, source):
+def macro(name: Any, source: Any) -> Any:
     """The pattern of a macro's lines, with a group for each variable, and the texts that it writes of a line."""
     pattern, body = re.search(r"macro_rules! %s \{\s*\(\$\((.*?);\)\*\) => \{(.*?)\n    \};" % name, source, re.S).groups()
     pattern = re.escape(re.sub(r"\s+", " ", pattern.strip())).replace(r"\ ", " ")
@@ -103,7 +106,7 @@ def macro(name, source):
     return pattern, re.findall(r"text!\((.*)\)", re.sub(r"\n {12,}(?!text!|\s)", " ", body))
 
 
-def given(text, match):
+def given(text: Any, match: Any) -> Any:
     """The text with what a line gives for the variables."""
     for name, value in sorted(match.groupdict().items(), key=lambda it: -len(it[0])):
         text = text.replace(f"$(${name})*", value).replace(f"$(${name}).+", value).replace(f"${name}", value)
@@ -114,14 +117,14 @@ WIDTHS = {of: dict(re.findall(r"\((\w+)\) => \{ index_of!\((\w+)\) \};", body))
           for of, body in re.findall(r"macro_rules! (in_\w+) \{(.*?)\n\}", SCALAR_TEXTS + VECTOR_TEXTS, re.S)}
 
 
-def text_of(body):
+def text_of(body: Any) -> Any:
     of, kind, name, operation, sets, items = re.fullmatch(r"(\w+) (\w+) \[(.*?)\] (G\d+\(.*\)) \[(.*?)\] \((.*)\)", body.strip()).groups()
     operands = [WIDTHS.get(of, {}).get(word, word) for word in items.replace(",", " comma").split()]
     return dict(alias=kind == "alias", name=name.replace(" ", ""), tokens=name, operation=re.sub(r"\s", "", operation),
                 sets=[(field, int(n)) for field, n in re.findall(r"(\w+) ?= ?(\d+)", sets)], operands=operands)
 
 
-def expanded():
+def expanded() -> Any:
     """The texts: whether it is an alias, its name, the operation, the fields that are set, the operands."""
     found = []
     for source in (SCALAR_TEXTS, VECTOR_TEXTS):
@@ -133,7 +136,7 @@ def expanded():
     return found
 
 
-def bits_of(text):
+def bits_of(text: Any) -> Any:
     """The bits that a text fixes: all but those of its operands' fields."""
     _, value, _ = ROWS[text["operation"]]
     free = 0
@@ -145,17 +148,17 @@ def bits_of(text):
 
 
 # ---- the tables
-def numbers(ns, per=20):
+def numbers(ns: Any, per: Any = 20) -> Any:
     return ["    " + ", ".join(map(str, ns[i:i + per])) + "," for i in range(0, len(ns), per)]
 
 
-def list_of(text):
+def list_of(text: Any) -> Any:
     """The list that has the operands: those of the scalar instructions, of vectors, and of stores, ZA and tiles."""
     group = int(re.match(r"G(\d+)", text["operation"])[1])
     return "Scalar" if group < 24 else "Matrix" if group > 38 or "Store" in text["operation"] else "Vector"
 
 
-def lines_of(words):
+def lines_of(words: Any) -> Any:
     """Words in lines of at most 100 columns, the last with a semicolon."""
     lines = ["   "]
     for word in words:
@@ -165,7 +168,7 @@ def lines_of(words):
     return [*lines[:-1], lines[-1] + ";"]
 
 
-def list_lines(key, first):
+def list_lines(key: Any, first: Any) -> Any:
     """The line of a list of operands with its index, or the lines of at most 110 columns."""
     line, (*words, last) = "   ", key
     lines = []
@@ -177,14 +180,14 @@ def list_lines(key, first):
     return [*lines, line]
 
 
-def hash_of(text, size):
+def hash_of(text: Any, size: Any) -> Any:
     h = 0
     for c in text.encode():
         h = (h * FACTOR + c) % size
     return h
 
 
-def slots(texts, size):
+def slots(texts: Any, size: Any) -> Any:
     """Where each text stands: in the first free slot from that of its hash on, at most 16 steps away."""
     places = [FREE] * size
     for i, text in enumerate(texts):
@@ -193,11 +196,11 @@ def slots(texts, size):
     return places
 
 
-def write(path, *lines):
+def write(path: Any, *lines: Any) -> None:
     path.write_text("\n".join(lines) + "\n")
 
 
-def main():
+def main() -> None:
     parser(__doc__).parse_args()
     texts = expanded()
     names = {text["name"]: text["tokens"] for text in texts}

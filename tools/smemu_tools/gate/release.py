@@ -15,6 +15,8 @@ release of other sources is no fault, and is told.
 --unpack is for ./smemu, and puts the program into release/out, if it is of exactly these sources. It reads what the system says of each
 of them, and keeps it there as `state`: while that holds no source has changed, and no start need ask again.
 """
+from __future__ import annotations
+
 import argparse
 import contextlib
 import fcntl
@@ -24,6 +26,7 @@ import pathlib
 import subprocess
 import sys
 import time
+from typing import Any
 
 from smemu_tools.gate.build import CRATES, PROGRAM, TOP, below
 
@@ -38,48 +41,48 @@ TICK = 0.02
 FAULTS = OSError, ValueError, subprocess.SubprocessError
 
 
-def name_of(path):
+def name_of(path: pathlib.Path) -> str:
     return path.relative_to(TOP).as_posix()
 
 
-def shown(path):
+def shown(path: pathlib.Path) -> Any:
     """A path as it is told: from the top of the repository, where it is below."""
     return name_of(path) if TOP in path.parents else path
 
 
-def files_under(folder):
+def files_under(folder: pathlib.Path) -> list[pathlib.Path]:
     return [pathlib.Path(place) / name for place, _, names in os.walk(folder, followlinks=True) for name in names]
 
 
-def sources():
+def sources() -> list[str]:
     """The names of all files that the build reads."""
     parts = [CRATES / crate / part for crate in [*below(PROGRAM), PROGRAM] for part in ("src", "specs", "proofs")]
     return sorted(map(name_of, [TOP / "crates.txt", TOP / "HANDLES", *(file for part in parts for file in files_under(part))]))
 
 
-def digest_of(content):
+def digest_of(content: bytes) -> str:
     return hashlib.sha256(content).hexdigest()
 
 
-def digests():
+def digests() -> dict[str, str]:
     """The SHA-256 of each source that stands here, by its name."""
     return {name: digest_of((TOP / name).read_bytes()) for name in sources()}
 
 
-def stated():
+def stated() -> tuple[str, str, dict[str, str]]:
     """The SHA-256 of the released program, that of its packed file, and those of its sources by their names."""
     found = {name: digest for digest, _, name in (line.partition("  ") for line in SUMS.read_text().splitlines())}
     return found.pop(name_of(BUILT), None), found.pop(name_of(PACKED), None), found
 
 
-def packed(content):
+def packed(content: bytes) -> bytes:
     """A packed file, which xz unpacks too. Nothing in it is of the machine or the time."""
     import lzma
-    filters = [{"id": lzma.FILTER_X86}, {"id": lzma.FILTER_LZMA2, "preset": 9 | lzma.PRESET_EXTREME}]
+    filters: list[dict[str, int]] = [{"id": lzma.FILTER_X86}, {"id": lzma.FILTER_LZMA2, "preset": 9 | lzma.PRESET_EXTREME}]
     return lzma.compress(content, lzma.FORMAT_XZ, lzma.CHECK_CRC32, filters=filters)
 
 
-def unpacked(content):
+def unpacked(content: bytes) -> bytes:
     try:
         import lzma
     except ImportError:
@@ -91,7 +94,7 @@ def unpacked(content):
         raise ValueError(f"{name_of(PACKED)} is no packed file: {fault}") from fault
 
 
-def released(program, packed_file):
+def released(program: str, packed_file: str) -> bytes:
     """The released program, whose SHA-256 must be this one, and that of its packed file the other."""
     content = PACKED.read_bytes()
     if digest_of(content) != packed_file:
@@ -102,7 +105,7 @@ def released(program, packed_file):
     return content
 
 
-def make():
+def make() -> int:
     """Makes the release, and says what is in it."""
     if not BUILT.is_file():
         sys.exit(f"release: there is no {name_of(BUILT)}; ./smemu --build makes it")
@@ -122,12 +125,12 @@ def make():
     return 0
 
 
-def found():
+def found() -> pathlib.Path:
     """The program that was built here, or where none was the unpacked one."""
     return BUILT if BUILT.is_file() or not (OUT / PROGRAM).is_file() else OUT / PROGRAM
 
 
-def check(path):
+def check(path: pathlib.Path) -> int:
     """Compares a program with the released one, where that is of these sources."""
     if not path.is_file():
         print(f"release: there is no {shown(path)}")
@@ -149,7 +152,7 @@ def check(path):
     return 0 if agree else 1
 
 
-def put(path, content, mode):
+def put(path: pathlib.Path, content: bytes, mode: int) -> None:
     """Puts a file in place at once, for those that start it meanwhile. The lock is held."""
     new = path.with_suffix(".new")
     with open(new, "wb") as file:
@@ -160,12 +163,12 @@ def put(path, content, mode):
     new.replace(path)
 
 
-def is_whole(state, names):
+def is_whole(state: bytes, names: dict[str, str]) -> bool:
     """Tells whether a state has a line for each of these sources."""
     return {line.split(b" ", 4)[-1] for line in state.splitlines()} >= {os.fsencode(TOP / name) for name in names}
 
 
-def unpack_under_lock(state):
+def unpack_under_lock(state: bytes) -> bool:
     """Puts the released program in place if it is of these sources, and says whether it is."""
     program, packed_file, of = stated()
     if of != digests():
@@ -186,7 +189,7 @@ def unpack_under_lock(state):
     return True
 
 
-def unpack():
+def unpack() -> int:
     state = sys.stdin.buffer.read()
     # what changes from here on has another time than the state says
     time.sleep(TICK)
@@ -199,12 +202,12 @@ def unpack():
         return 1
 
 
-def main():
+def main() -> int:
     words = argparse.ArgumentParser(description=__doc__.partition("\n\n")[0])
     what = words.add_mutually_exclusive_group()
     what.add_argument("--check", nargs="?", const=None, default=False, type=pathlib.Path, metavar="PROGRAM")
     what.add_argument("--unpack", action="store_true")
-    words = words.parse_args()
-    if words.unpack:
+    asked = words.parse_args()
+    if asked.unpack:
         return unpack()
-    return make() if words.check is False else check(words.check or found())
+    return make() if asked.check is False else check(asked.check or found())

@@ -6,15 +6,18 @@ wrong/. With --trusted the lines of the definitions that a reader of the claims 
 Trusted are the lines of the files that its parts 1 to 9 list, without blank lines, comments, imports and attributes. Of a source file that is
 data (rows, fields, texts) all such lines count; of one whose types alone are cited, its types.
 """
+from __future__ import annotations
+
 import argparse
 import re
+from typing import Any, Iterator
 
 from smemu_tools import TOP
 
 NO_DEFINITION = re.compile(r"\s*($|--|//|use |ghost use |pub mod |mod |#!?\[|\}$)")
 
 
-def sizes():
+def sizes() -> Iterator[list[int | str]]:
     """A row for each crate: its name, and five numbers."""
     for crate in sorted(path for path in (TOP / "crates").iterdir() if (path / "src").is_dir()):
         parts = (("src", "*.rt"), ("specs", "*.antt"), ("proofs", "*.antt"))
@@ -22,7 +25,7 @@ def sizes():
         yield [crate.name, *lines, *(len(list((crate / part).glob("*.edit"))) for part in ("must-fail", "wrong"))]
 
 
-def files_of(cell):
+def files_of(cell: str) -> Iterator[Any]:
     """The files that a row's first cell names: a file without a folder stands in that of the one before it."""
     folder = crate = ""
     for name in re.findall(r"[\w/.]+\.(?:antt|rt)", cell):
@@ -34,7 +37,7 @@ def files_of(cell):
         yield TOP / "crates" / crate / folder / parts[-1]
 
 
-def parts():
+def parts() -> Iterator[tuple[str, list[Any]]]:
     """The title of each part of docs/SPECIFICATION.md, and the files that it lists."""
     for part in (TOP / "docs" / "SPECIFICATION.md").read_text().split("\n## ")[1:]:
         title, _, body = part.partition("\n")
@@ -42,7 +45,7 @@ def parts():
         yield title, [path for row in rows for path in files_of(row.split("|")[1])]
 
 
-def lines_of(path):
+def lines_of(path: Any) -> int:
     """How many lines of a file define something."""
     is_import, count = False, 0
     for line in path.read_text().splitlines():
@@ -52,7 +55,7 @@ def lines_of(path):
     return count
 
 
-def trusted():
+def trusted() -> Iterator[str]:
     """The lines to print: a number and a title for each part that is trusted, and all of them."""
     total, seen = 0, set()
     for title, files in parts():
@@ -66,7 +69,7 @@ def trusted():
     yield f"{total:6} in {len(seen)} files"
 
 
-def main():
+def main() -> None:
     words = argparse.ArgumentParser(description=__doc__.partition("\n\n")[0])
     words.add_argument("--trusted", action="store_true")
     if words.parse_args().trusted:
@@ -74,5 +77,6 @@ def main():
         return
     print("| Crate | Sources | Definitions | Proofs | Tried by the gate | Other wrong bodies |\n|---|---|---|---|---|---|")
     rows = list(sizes())
-    for name, *numbers in [*rows, ["all", *map(sum, zip(*(row[1:] for row in rows)))]]:
+    total: list[Any] = ["all", *map(sum, zip(*(row[1:] for row in rows)))]
+    for name, *numbers in [*rows, total]:
         print(f"| {name} | " + " | ".join(f"{number:,}" for number in numbers) + " |")

@@ -8,6 +8,8 @@ assemblers and disassemblers that are installed.
 PROGRAM is the emulator, by default the one that ./smemu runs. Each is run five times, and the best is printed. The decoder is timed by
 the loader, which decodes each word of a load: a file whose last word is unlisted against the same file with the first word unlisted too.
 """
+from __future__ import annotations
+
 import argparse
 import pathlib
 import shutil
@@ -15,6 +17,7 @@ import subprocess
 import sys
 import tempfile
 import time
+from typing import Any
 
 from smemu_tools import TOP
 from smemu_tools.model.elf import ALLOC, EXECINSTR, STRTAB, SYMTAB, Section, Segment, build, elf, text_of
@@ -98,7 +101,7 @@ WORDS = 4_000_000
 LINES = 400_000
 
 
-def emulator(named=None):
+def emulator(named: pathlib.Path | None = None) -> Any:
     """The emulator of this name, or the one that ./smemu runs."""
     if named is None:
         return pathlib.Path(subprocess.run([TOP / "smemu", "--which"], check=True, stdout=subprocess.PIPE, text=True).stdout.rstrip("\n"))
@@ -107,7 +110,7 @@ def emulator(named=None):
     return named.resolve()
 
 
-def best_of(command, output):
+def best_of(command: Any, output: Any) -> Any:
     """The least time of a command whose output goes to a file."""
     times = []
     for _ in range(RUNS):
@@ -118,7 +121,7 @@ def best_of(command, output):
     return min(times)
 
 
-def best(program, path, *options):
+def best(program: Any, path: Any, *options: Any) -> Any:
     """The least time of a run, and its report."""
     times = []
     for _ in range(RUNS):
@@ -128,24 +131,24 @@ def best(program, path, *options):
     return min(times), text
 
 
-def count_of(report):
+def count_of(report: Any) -> Any:
     return next(int(line.split()[1]) for line in report.splitlines() if line.startswith("count "))
 
 
-def listed_words():
+def listed_words() -> Any:
     """The words of the rows, over and over."""
     lines = (TOP / "crates" / "smemu_rows" / "data" / "words.tsv").read_text().splitlines()
     words = [int(line.split("\t")[0], 16) for line in lines]
     return [words[i % len(words)] for i in range(WORDS)]
 
 
-def paged(words):
+def paged(words: Any) -> Any:
     """The words, and a page of data at 0x410000."""
     text = text_of(words)
     return build([Segment(0x400000, text), Segment(0x410000, bytes(4096), flags=6)])[0]
 
 
-def large(words):
+def large(words: Any) -> Any:
     """A file of 64 MiB: the words as text, and else a symbol table, of which every fourth symbol says where code begins."""
     text = text_of(words)
     symbol = lambda name, value: name.to_bytes(4, "little") + bytes([0, 0, 1, 0]) + value.to_bytes(8, "little") + bytes(8)
@@ -158,7 +161,7 @@ def large(words):
     return file + bytes(FILE_SIZE - len(file))
 
 
-def source_of(count):
+def source_of(count: Any) -> Any:
     """So many lines of mixed instructions, every eighth with a label and a branch to it or to an earlier one."""
     texts = [line.split("\t")[1] for line in (TOP / "crates" / "smemu_rows" / "data" / "words.tsv").read_text().splitlines()]
     lines = ["    .text", "_start:"]
@@ -167,7 +170,7 @@ def source_of(count):
     return "\n".join(lines) + "\n"
 
 
-def vector_source(lines, turns=VECTOR_TURNS, first="ptrue p1.s, all"):
+def vector_source(lines: Any, turns: Any = VECTOR_TURNS, first: Any = "ptrue p1.s, all") -> Any:
     """So many turns of a loop of these lines, `subs` and `b.ne`, after the first lines."""
     return f"""    .text
 _start:
@@ -188,12 +191,12 @@ page:
 """
 
 
-def matrix_source(lines, turns):
+def matrix_source(lines: Any, turns: Any) -> Any:
     """So many turns of a loop of these lines in Streaming SVE mode with ZA on, with numbers in Z0 and Z1."""
     return vector_source(lines, turns, "smstart\n    ptrue p0.b, all\n    index z0.b, #1, #3\n    index z1.b, #-5, #7")
 
 
-def time_vectors(smemu, folder, start):
+def time_vectors(smemu: Any, folder: Any, start: Any) -> None:
     source, program = folder / "vectors.s", folder / "vectors.elf"
     for name, lines in VECTOR_LOOPS.items():
         source.write_text(vector_source(lines))
@@ -209,7 +212,7 @@ def time_vectors(smemu, folder, start):
                 print(f"qemu-aarch64, {vl} bits: {taken:.3f} s, {count / taken / 1e6:.1f} million a second")
 
 
-def time_matrices(smemu, folder, start):
+def time_matrices(smemu: Any, folder: Any, start: Any) -> None:
     source, program = folder / "matrices.s", folder / "matrices.elf"
     for name, lines in MATRIX_LOOPS.items():
         for svl, turns in MATRIX_TURNS.items():
@@ -223,7 +226,7 @@ def time_matrices(smemu, folder, start):
                   f"{1e6 * (total - start) / products:.2f} us a product with its share of the rest")
 
 
-def time_sources(smemu, folder):
+def time_sources(smemu: Any, folder: Any) -> None:
     source, program, other, listing = (folder / name for name in ("source.s", "program.elf", "other.o", "listing"))
     assemblers = [[tool, "-march=armv9-a+sme", "-o", other, source] for tool in ("aarch64-linux-gnu-as",) if shutil.which(tool)]
     disassemblers = [[tool, "-d", program] for tool in ("llvm-objdump", "aarch64-linux-gnu-objdump") if shutil.which(tool)]
@@ -240,10 +243,10 @@ def time_sources(smemu, folder):
             print(f"{name}: {count} words in {taken:.3f} s, {count / taken / 1e6:.2f} million a second")
 
 
-def main():
-    words = argparse.ArgumentParser(description=__doc__.partition("\n\n")[0])
-    words.add_argument("program", nargs="?", type=pathlib.Path, metavar="PROGRAM")
-    smemu = emulator(words.parse_args().program)
+def main() -> None:
+    asked = argparse.ArgumentParser(description=__doc__.partition("\n\n")[0])
+    asked.add_argument("program", nargs="?", type=pathlib.Path, metavar="PROGRAM")
+    smemu = emulator(asked.parse_args().program)
     answer = subprocess.run([smemu, "asm", TOP / "examples" / "answer.s"], check=True, stdout=subprocess.PIPE).stdout
     with tempfile.TemporaryDirectory() as folder:
         path = pathlib.Path(folder) / "program.elf"

@@ -12,6 +12,8 @@ it does. --only takes those whose name has WORD, and --anew also tries what an e
 A crate that was checked here (`rt check`) is not proved again; any other is proved first, and so are the crates below it.
 The folder is made where TMPDIR says: on another disk than this one what is kept is copied and not linked.
 """
+from __future__ import annotations
+
 import argparse
 import os
 import pathlib
@@ -20,6 +22,7 @@ import subprocess
 import sys
 import tempfile
 import time
+from typing import Any
 
 from smemu_tools import TOP
 
@@ -30,7 +33,7 @@ IN_GATE, BESIDE = "must-fail", "wrong"
 KEPT = "incremental", "rlib"
 
 
-def bodies_of(crate, folder, word=""):
+def bodies_of(crate: str, folder: str, word: str = "") -> list[pathlib.Path]:
     """The wrong bodies in a folder of a crate whose names have the word."""
     return [it for it in sorted((CRATES / crate / folder).glob("*.edit")) if word in it.stem]
 
@@ -38,7 +41,7 @@ def bodies_of(crate, folder, word=""):
 class Edit:
     """A wrong body: pairs of an old and a new text, each in a file. What it may hold is what `rt must-fail` reads."""
 
-    def __init__(self, path):
+    def __init__(self, path: pathlib.Path) -> None:
         self.pairs, self.fault = [], None
         file = old = None
         for line in path.read_text().splitlines():
@@ -56,7 +59,7 @@ class Edit:
             self.fault = "it has no 'old:' and 'new:' pair"
 
 
-def fault_of(path):
+def fault_of(path: pathlib.Path) -> Any:
     """Why a wrong body cannot be applied to its crate, or None."""
     crate, edit, texts = path.parent.parent, Edit(path), {}
     for file, old, new in edit.pairs:
@@ -71,7 +74,7 @@ def fault_of(path):
     return edit.fault
 
 
-def read(bodies):
+def read(bodies: list[pathlib.Path]) -> bool:
     """Says which of these cannot be applied, and whether all can."""
     faults = [(it, fault_of(it)) for it in bodies]
     for path, why in faults:
@@ -82,7 +85,7 @@ def read(bodies):
     return good == len(faults)
 
 
-def with_below(names):
+def with_below(names: Any) -> Any:
     """The crates of these names and all below them, by crates.txt."""
     rows = [line.partition("#")[0].partition(":") for line in (TOP / "crates.txt").read_text().splitlines()]
     uses = {name.split()[0]: libraries.split() for name, _, libraries in rows if name.strip()}
@@ -95,7 +98,7 @@ def with_below(names):
     return found
 
 
-def link(source, target):
+def link(source: Any, target: Any) -> Any:
     """Copies a file, what was proved by a link: rt replaces such a file, and never writes into it."""
     if source.endswith(".oantt") or "/rlib/" in source:
         try:
@@ -105,7 +108,7 @@ def link(source, target):
     return shutil.copy2(source, target)
 
 
-def copy_crates(room, bodies):
+def copy_crates(room: Any, bodies: Any) -> None:
     """Makes the scratch copy: the crates, with what is kept of those that are needed, and only these bodies in must-fail/."""
     needed = with_below(bodies)
     for name in ("crates.txt", "HANDLES"):
@@ -123,13 +126,13 @@ def copy_crates(room, bodies):
             shutil.copy2(edit, to / edit.name)
 
 
-def try_all(bodies, anew):
+def try_all(bodies: Any, anew: Any) -> Any:
     """Tries these wrong bodies, by crate, and says whether each was refused."""
     count, start = sum(map(len, bodies.values())), time.monotonic()
     with tempfile.TemporaryDirectory(prefix="wrong-bodies-") as room:
         copy_crates(pathlib.Path(room), bodies)
         words = ["rt", "must-fail", *["--anew"] * anew, *bodies]
-        how = {"cwd": room, "stdin": subprocess.DEVNULL, "stdout": subprocess.PIPE, "stderr": subprocess.STDOUT}
+        how: dict[str, Any] = {"cwd": room, "stdin": subprocess.DEVNULL, "stdout": subprocess.PIPE, "stderr": subprocess.STDOUT}
         ran = subprocess.run(words, **how, text=True, errors="replace")
     print(ran.stdout.replace(f"{room}/", ""), end="")
     refused = ran.stdout.count(": refused, as it must be")
@@ -137,7 +140,7 @@ def try_all(bodies, anew):
     return ran.returncode == 0 and refused == count
 
 
-def main():
+def main() -> Any:
     words = argparse.ArgumentParser(description=__doc__.splitlines()[0])
     words.add_argument("names", nargs="*", metavar="NAME")
     words.add_argument("--only", default="", metavar="WORD")

@@ -1,5 +1,8 @@
 """ELF64 executables for AArch64, built from their parts, so that each field can be set to what a file should not have."""
+from __future__ import annotations
+
 import struct
+from typing import Any
 
 ADDRESS = 0x400000
 LOAD, DYNAMIC, INTERP, NOTE, TLS, STACK = 1, 2, 3, 4, 7, 0x6474E551
@@ -8,14 +11,14 @@ ALLOC, EXECINSTR = 2, 4
 NAMES = {PROGBITS: ".text", SYMTAB: ".symtab", STRTAB: ".strtab", NOBITS: ".bss"}
 
 
-def text_of(words):
+def text_of(words: Any) -> bytes:
     return b"".join(struct.pack("<I", word) for word in words)
 
 
 class Segment:
     """A program header and its bytes in the file."""
 
-    def __init__(self, address=ADDRESS, data=b"", flags=5, kind=LOAD, memory=None, size=None, offset=None):
+    def __init__(self, address: int = ADDRESS, data: bytes = b"", flags: int = 5, kind: int = LOAD, memory: int | None = None, size: Any = None, offset: int | None = None) -> None:
         self.address, self.data, self.flags, self.kind, self.offset = address, data, flags, kind, offset
         self.size = len(data) if size is None else size
         self.memory = self.size if memory is None else memory
@@ -24,13 +27,13 @@ class Segment:
 class Section:
     """A section header, over the bytes of a segment or over its own."""
 
-    def __init__(self, kind=PROGBITS, flags=0, address=0, data=None, size=0, offset=0, link=0, entry_size=0):
+    def __init__(self, kind: int = PROGBITS, flags: int = 0, address: int = 0, data: bytes | None = None, size: int = 0, offset: int = 0, link: int = 0, entry_size: int = 0) -> None:
         self.kind, self.flags, self.address, self.data = kind, flags, address, data
         self.size = size if data is None else len(data)
         self.offset, self.link, self.entry_size = offset, link, entry_size
 
 
-def symbols(*entries):
+def symbols(*entries: tuple[str, int, int]) -> tuple[bytes, bytes]:
     """A symbol table and its string table: each entry is a name, a section's number and a value."""
     strings, table = b"\0", bytes(24)
     for name, section, value in entries:
@@ -39,7 +42,7 @@ def symbols(*entries):
     return table, strings
 
 
-def build(segments, sections=None, entry=ADDRESS):
+def build(segments: list[Segment], sections: list[Section] | None = None, entry: int = ADDRESS) -> tuple[bytes, list[int], list[int]]:
     """The bytes of the file, the places of its program headers and those of its section headers."""
     body = bytearray(64 + 56 * len(segments))
     heads = b""
@@ -72,14 +75,14 @@ def build(segments, sections=None, entry=ADDRESS):
     return bytes(body), [64 + 56 * i for i in range(len(segments))], [sections_at + 64 * i for i in range(count)]
 
 
-def elf(words, address=ADDRESS, entry=None):
+def elf(words: list[int], address: int = ADDRESS, entry: Any = None) -> bytes:
     """One load that can be read and executed, with a section of the same words."""
     text = text_of(words)
     section = Section(flags=ALLOC | EXECINSTR, address=address, size=len(text), offset=128)
     return build([Segment(address, text)], [section], address if entry is None else entry)[0]
 
 
-def sections_of(file):
+def sections_of(file: bytes) -> dict[str, tuple[tuple[int, ...], bytes]]:
     """The sections of a file by their names: each has its header and its bytes."""
     table, count, names = struct.unpack_from("<Q", file, 40)[0], *struct.unpack_from("<HH", file, 60)
     headers = [struct.unpack_from("<IIQQQQIIQQ", file, table + 64 * i) for i in range(count)]
@@ -88,7 +91,7 @@ def sections_of(file):
     return {name(header): (header, b"" if header[1] == NOBITS else file[header[4]:header[4] + header[5]]) for header in headers}
 
 
-def mapping_symbols(file):
+def mapping_symbols(file: bytes) -> list[tuple[int, bool]]:
     """The mapping symbols of a linked file's text: pairs of an address and whether code begins there."""
     sections = sections_of(file)
     start, size = sections[".text"][0][3], sections[".text"][0][5]
@@ -104,7 +107,7 @@ def mapping_symbols(file):
     return sorted(found)
 
 
-def assembled(text, data, entry, marks):
+def assembled(text: bytes, data: bytes, entry: int, marks: list[tuple[int, bool]]) -> bytes:
     """The file of a program of that text and data, laid out as docs/ASSEMBLY.md says."""
     page = lambda place: -(-place // 4096) * 4096
     data_at, data_address = page(4096 + len(text)), page(ADDRESS + len(text))

@@ -4,10 +4,13 @@
 
 It knows the instructions that the programs of this repository use, and the calls of both kernels; each other word is undefined to it. One thread makes all operations on the shared words.
 """
+from __future__ import annotations
+
 import hashlib
 import pathlib
 import struct
 import sys
+from typing import Any
 
 from smemu_tools import parser
 from smemu_tools.model import expected_compiled
@@ -51,13 +54,13 @@ class Full(Exception):
     """The journal has no room for another event."""
 
 
-def signed(value, bits):
+def signed(value: int, bits: int) -> int:
     value &= (1 << bits) - 1
     return value - (1 << bits) if value >> (bits - 1) else value
 
 
 class Thread:
-    def __init__(self, file, budget, vl, svl, interval, number=0, threads=1, kernel=KERNEL):
+    def __init__(self, file: bytes, budget: int, vl: int, svl: int, interval: int, number: int = 0, threads: int = 1, kernel: int = KERNEL) -> None:
         self.number, self.threads, self.kernel = number, threads, kernel
         self.pages, self.budget, self.interval = {}, budget, interval
         self.tpidr = self.tpidr2 = self.held = self.mask = self.depth = self.pending = self.turns = 0
@@ -82,10 +85,10 @@ class Thread:
         self.output = b""
         self.words, self.journal = [0] * 512, []
 
-    def page(self, number, flags):
+    def page(self, number: int, flags: int) -> list[bytearray | int]:
         return self.pages.setdefault(number, [flags, bytearray(4096)])
 
-    def bytes_with(self, need, address, count):
+    def bytes_with(self, need: int, address: int, count: int) -> bytes | None:
         page, start = self.pages.get((address & MASK) // 4096), address % 4096
         if page is not None and start + count <= 4096:
             return bytes(page[1][start:start + count]) if page[0] & need or not count else None
@@ -97,7 +100,7 @@ class Thread:
             out.append(page[1][at % 4096])
         return bytes(out)
 
-    def check(self, address, count, kind, base=None, aligned=False):
+    def check(self, address: int, count: int, kind: str, base: int | None = None, aligned: bool = False) -> None:
         if base == 31 and self.sp % 16:
             raise Raised("spalign", "")
         if aligned and address % count:
@@ -110,15 +113,15 @@ class Thread:
                 if name in kind and self.bytes_with(need, at, 1) is None:
                     raise Raised("data", f" {at & MASK:016x} {name}")
 
-    def keep(self, kind, place, a, b, answer):
+    def keep(self, kind: str, place: int, a: int, b: int, answer: int) -> int:
         self.journal.append(f"e {kind} {place} {a:016x} {b:016x} {answer:016x}")
         return answer
 
-    def need_room(self):
+    def need_room(self) -> None:
         if len(self.journal) == JOURNAL_LIMIT:
             raise Full
 
-    def ask(self, kind, address, base, a=0, b=0):
+    def ask(self, kind: str, address: int, base: int, a: int = 0, b: int = 0) -> int:
         """An operation on a shared word: an aligned access of 64 bits."""
         if base == 31 and self.sp % 16:
             raise Raised("spalign", "")
@@ -128,14 +131,14 @@ class Thread:
         self.words[place] = OPERATIONS[kind](old, a, b)
         return self.keep(kind, place, a, b, 0 if kind == "st" else old)
 
-    def ask_signals(self, kind, thread, a=0):
+    def ask_signals(self, kind: str, thread: int, a: int = 0) -> int:
         """A poll or a post of a thread's pending signals, which are those of the one thread."""
         self.need_room()
         old = self.pending
         self.pending = OPERATIONS[kind](old, a, 0)
         return self.keep(kind, thread, a, 0, old)
 
-    def check_all(self, addresses, count, kind, base):
+    def check_all(self, addresses: list[int], count: int, kind: str, base: int) -> None:
         if base == 31 and self.sp % 16:
             raise Raised("spalign", "")
         places = [(at + k) & MASK for at in addresses for k in range(count)]
@@ -145,7 +148,7 @@ class Thread:
         for at in places:
             self.check(at, 1, kind)
 
-    def need(self, streaming=None, za=False):
+    def need(self, streaming: bool | None = None, za: bool = False) -> None:
         """Raises where the modes are not those that an instruction is executed in."""
         if streaming is False and self.matrix.streaming:
             raise Raised("illegalstreaming", "")
@@ -154,20 +157,20 @@ class Thread:
         if za and not self.matrix.on:
             raise Raised("zainactive", "")
 
-    def load(self, address, count):
+    def load(self, address: int, count: int) -> int:
         return int.from_bytes(self.bytes_with(4, address, count), "little")
 
-    def store(self, address, count, value):
+    def store(self, address: int, count: int, value: int) -> None:
         for k, byte in enumerate((value & (1 << 8 * count) - 1).to_bytes(count, "little")):
             at = (address + k) & MASK
             self.pages[at // 4096][1][at % 4096] = byte
 
-    def holds(self, condition):
+    def holds(self, condition: int) -> bool:
         n, z, c, v = self.flags
         truth = [z, c, n, v, c and not z, n == v, not z and n == v, True][condition // 2]
         return bool(truth) != bool(condition & 1 and condition != 15)
 
-    def call(self):
+    def call(self) -> str:
         """A call that is counted leaves streaming mode."""
         number, answer = self.x[8], -38 & MASK
         if number == 93:
@@ -209,10 +212,10 @@ class Thread:
         self.x[0], self.pc = answer, self.pc + 4
         return self.counted()
 
-    def counted(self):
+    def counted(self) -> Any:
         self.count, self.turns, self.polled = self.count + 1, self.turns + 1, False
 
-    def turn(self):
+    def turn(self) -> str:
         """What the thread stops with, if it does."""
         try:
             return self.due()
@@ -221,7 +224,7 @@ class Thread:
         except BadFrame as bad:
             return f"badframe {bad.args[0]:016x}"
 
-    def due(self):
+    def due(self) -> str | None:
         """A poll, the delivery of a signal, or an instruction."""
         if self.count == self.budget:
             return "budget"
@@ -240,7 +243,7 @@ class Thread:
             return None
         return self.instruction()
 
-    def instruction(self):
+    def instruction(self) -> str:
         if self.pc % 4:
             return f"raised pcalign {self.pc:016x}"
         got = self.bytes_with(1, self.pc, 4)
@@ -261,7 +264,7 @@ class Thread:
         self.pc = target & MASK
         return self.counted()
 
-    def execute(self, word):
+    def execute(self, word: int) -> int:
         """The address of the next instruction; None where the word is undefined."""
         wide, rd, rn, after = word >> 31, word & 31, word >> 5 & 31, self.pc + 4
         if word & 0x7F800000 in (0x52800000, 0x72800000, 0x12800000) and (wide or not word >> 22 & 1):
@@ -316,16 +319,16 @@ class Thread:
         target = expected_compiled.execute(word, self)
         return self.access(word, rd, rn, after) if target is None else target
 
-    def read(self, number):
+    def read(self, number: int) -> int:
         return 0 if number == 31 else self.x[number]
 
-    def write(self, number, value, sp):
+    def write(self, number: int, value: int, sp: bool) -> None:
         if number < 31:
             self.x[number] = value
         elif sp:
             self.sp = value
 
-    def move_wide(self, word, wide, rd):
+    def move_wide(self, word: int, wide: int, rd: int) -> Any:
         shift, imm = 16 * (word >> 21 & 3), word >> 5 & 0xFFFF
         value = imm << shift
         if word >> 29 & 3 == 0:
@@ -334,7 +337,7 @@ class Thread:
             value = self.read(rd) & ~(0xFFFF << shift) & (MASK if wide else 0xFFFFFFFF) | value
         self.write(rd, value, False)
 
-    def add(self, word, wide, rd, a, b, sp):
+    def add(self, word: int, wide: int, rd: int, a: int, b: int, sp: bool) -> Any:
         bits = 64 if wide else 32
         size = 1 << bits
         a, b, subtracts, sets = a % size, b % size, word >> 30 & 1, word >> 29 & 1
@@ -345,7 +348,7 @@ class Thread:
             self.flags = [result >> (bits - 1), int(result == 0), int(carry), int(whole != signed(result, bits))]
         self.write(rd, result, sp and not sets)
 
-    def access(self, word, rt, rn, after):
+    def access(self, word: int, rt: int, rn: int, after: int) -> int | None:
         size = 1 << (word >> 30)
         base = self.sp if rn == 31 else self.x[rn]
         if word & 0x3F000000 == 0x39000000:
@@ -391,7 +394,7 @@ class Thread:
             return after
         return None
 
-    def transfer(self, word, size, address, rt, rn, after):
+    def transfer(self, word: int, size: int, address: int, rt: int, rn: int, after: int) -> int | None:
         operation = word >> 22 & 3
         if size == 8 and operation > 1 or size == 4 and operation == 3:
             return None
@@ -411,7 +414,7 @@ class Thread:
             self.write(rt, value, False)
         return after
 
-    def exchange(self, word, kind, size, base, rt, rn, after):
+    def exchange(self, word: int, kind: str, size: int, base: int, rt: int, rn: int, after: int) -> int:
         """SWP, LDADD and its kin."""
         value = self.read(word >> 16 & 31)
         if size == 8 and kind in OPERATIONS and base in SHARED and base % 8 == 0:
@@ -428,7 +431,7 @@ class Thread:
         self.write(rt, old, False)
         return after
 
-    def compare(self, word, size, base, rt, rn, after):
+    def compare(self, word: int, size: int, base: int, rt: int, rn: int, after: int) -> int:
         """CAS."""
         rs = word >> 16 & 31
         if size == 8 and base in SHARED and base % 8 == 0:
@@ -441,7 +444,7 @@ class Thread:
         self.write(rs, old, False)
         return after
 
-    def pair(self, word, rt, rn, base, after):
+    def pair(self, word: int, rt: int, rn: int, base: int, after: int) -> int:
         size, second, mode = 8 if word >> 31 else 4, word >> 10 & 31, word >> 23 & 3
         moved = (base + signed(word >> 15, 7) * size) & MASK
         address = base if mode == 1 else moved
@@ -459,12 +462,12 @@ class Thread:
         return after
 
 
-def masking(thread):
+def masking(thread: Any) -> list[str]:
     """The lines that say which signals have to wait."""
     return [f"inside {thread.depth}"] if thread.kernel == 1 else [f"mask {thread.mask:016x}", f"depth {thread.depth}"]
 
 
-def block(thread, stop, number=0):
+def block(thread: Any, stop: str | None, number: Any = 0) -> list[str]:
     """The lines of the block of a thread that stopped so."""
     digest = hashlib.sha256()
     for page, (flags, content) in sorted(thread.pages.items()):
@@ -481,7 +484,7 @@ def block(thread, stop, number=0):
     return lines + [f"journal {len(thread.journal)}", *thread.journal, "end-thread"]
 
 
-def report(file, vl=128, svl=256, budget=10_000_000, slice=1000, kernel=KERNEL, thread=Thread):
+def report(file: bytes, vl: Any = 128, svl: Any = 256, budget: Any = 10_000_000, slice: int = 1000, kernel: int = KERNEL, thread: Any = Thread) -> str:
     thread, stop = thread(file, budget, vl, svl, slice, kernel=kernel), None
     while stop is None:
         stop = thread.turn()
@@ -492,7 +495,7 @@ def report(file, vl=128, svl=256, budget=10_000_000, slice=1000, kernel=KERNEL, 
     return "\n".join(lines + ["end"]) + "\n"
 
 
-def main():
+def main() -> Any:
     words = parser(__doc__)
     words.add_argument("program", type=pathlib.Path, metavar="PROGRAM")
     words.add_argument("numbers", type=int, nargs="*", metavar="NUMBER", help="the numbers that `report` takes")

@@ -6,9 +6,12 @@ status is that of the process.
 A vector is a word with the state before it. It is executed by the thread of expected.py, which has no memory here but two pages, and by
 expected_others.py. A word that these do not know is undefined.
 """
+from __future__ import annotations
+
 import pathlib
 import re
 import sys
+from typing import Any
 
 from smemu_tools import parser
 from smemu_tools.model.expected import Thread
@@ -31,7 +34,7 @@ class BadLine(Exception):
     """The line is not in the grammar."""
 
 
-def place_of(key):
+def place_of(key: str) -> tuple[int, int]:
     """The place of a field in the order of a line."""
     said = KEY.fullmatch(key)
     if not said or said[1] and int(said[2]) >= NUMBERED[said[1]]:
@@ -39,7 +42,7 @@ def place_of(key):
     return ORDER.index(said[1] or key), int(said[2] or 0)
 
 
-def digits_of(kind, modes, vl, svl):
+def digits_of(kind: str, modes: int, vl: int, svl: int) -> str:
     """The digits of a value of that kind; those of `m` are any number of bytes up to a page."""
     length = (svl if modes & 1 else vl) // 8
     if kind == "m":
@@ -50,7 +53,7 @@ def digits_of(kind, modes, vl, svl):
     return f"[0-9a-f]{{{count}}}"
 
 
-def read_line(line, vl, svl):
+def read_line(line: str, vl: int, svl: int) -> tuple[int, list[tuple[str, str]]]:
     """The word, and the fields as (key, value)."""
     word, *words = line.split(" ")
     if not re.fullmatch("[0-9a-f]{8}", word):
@@ -68,7 +71,7 @@ def read_line(line, vl, svl):
     return int(word, 16), fields
 
 
-def read_vectors(content, vl, svl):
+def read_vectors(content: bytes, vl: int, svl: int) -> tuple[list[tuple[int, list[Any]]], int | None]:
     """The words with their fields; the number of the first line at fault where there is one, 0 where the file is too long."""
     if len(content) > MOST_BYTES:
         return [], 0
@@ -96,14 +99,14 @@ class Calls(Exception):
     """The instruction calls the kernel."""
 
 
-def truths(digits):
+def truths(digits: str) -> list[bool]:
     return [bool(byte >> k & 1) for byte in bytes.fromhex(digits) for k in range(8)]
 
 
 class Alone(KnowsAll, Thread):
     """The state of a vector."""
 
-    def __init__(self, word, fields, vl, svl):
+    def __init__(self, word: int, fields: list[tuple[str, str]], vl: int, svl: int) -> None:
         no_program = bytes(64)
         super().__init__(no_program, 1, vl, svl, 1)
         code = word.to_bytes(4, "little").ljust(PAGE, b"\0")
@@ -112,7 +115,7 @@ class Alone(KnowsAll, Thread):
         for key, value in fields:
             self.set(ORDER[place_of(key)[0]], place_of(key)[1], value)
 
-    def set(self, kind, number, value):
+    def set(self, kind: str, number: int, value: str) -> None:
         if kind == "x":
             self.x[number] = int(value, 16)
         elif kind in ("sp", "tpidr", "tpidr2"):
@@ -132,13 +135,13 @@ class Alone(KnowsAll, Thread):
         else:
             self.pages[DATA // PAGE][1][:len(value) // 2] = bytes.fromhex(value)
 
-    def need_room(self):
+    def need_room(self) -> None:
         raise Asks
 
-    def call(self):
+    def call(self) -> None:
         raise Calls
 
-    def told(self):
+    def told(self) -> list[str]:
         """The fields that are not zero."""
         fields = [f"x{n}={value:016x}" for n, value in enumerate(self.x) if value]
         fields += [f"sp={self.sp:016x}"] * bool(self.sp) + ["nzcv=" + "".join(str(int(flag)) for flag in self.flags)] * any(self.flags)
@@ -151,7 +154,7 @@ class Alone(KnowsAll, Thread):
         return fields + [f"m={data.hex()}"] * bool(data)
 
 
-def answer(vector, vl, svl):
+def answer(vector: tuple[int, list[tuple[str, str]]], vl: int, svl: int) -> str:
     """The line of a vector's answer."""
     word, fields = vector
     thread = Alone(word, fields, vl, svl)
@@ -167,7 +170,7 @@ def answer(vector, vl, svl):
     return " ".join([f"next pc={thread.pc:016x}", *thread.told()])
 
 
-def answers(content, vl=128, svl=256):
+def answers(content: bytes, vl: int = 128, svl: int = 256) -> tuple[int, str]:
     """The status and the text."""
     vectors, fault = read_vectors(content, vl, svl)
     if fault is not None:
@@ -175,7 +178,7 @@ def answers(content, vl=128, svl=256):
     return DONE, "".join(answer(vector, vl, svl) + "\n" for vector in vectors)
 
 
-def main():
+def main() -> Any:
     words = parser(__doc__)
     words.add_argument("file", type=pathlib.Path, metavar="FILE")
     words.add_argument("lengths", type=int, nargs="*", metavar="BITS", help="the lengths, --vl and --svl")

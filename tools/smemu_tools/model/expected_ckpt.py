@@ -6,9 +6,12 @@
 The thread runs on the interpreters of expected.py and expected_replay.py. The file is a walk over the fields of docs/CHECKPOINT.md: the place of the first one
 that is not whole, or not as its row says, is the answer.
 """
+from __future__ import annotations
+
 import re
 import struct
 import sys
+from typing import Any, Callable
 
 from smemu_tools import parser
 from smemu_tools.model.expected import block
@@ -27,14 +30,14 @@ class BadField(Exception):
     """The place of the first field that is not as it must be."""
 
 
-def number(value, size):
+def number(value: int, size: int) -> bytes:
     return value.to_bytes(size, "little")
 
 
 # ---- writing
 
 
-def checkpoint(thread, digest, options):
+def checkpoint(thread: Replayed, digest: str, options: dict[str, int]) -> bytes:
     """The file of a thread's state."""
     fields = [TAG, bytes.fromhex(digest), *(number(options[name], 4) for name in OPTIONS)]
     fields += [number(value, 4) for value in (thread.number, thread.count, len(thread.journal), thread.depth)]
@@ -49,7 +52,7 @@ def checkpoint(thread, digest, options):
     return b"".join(fields)
 
 
-def run_to(thread, count):
+def run_to(thread: Replayed, count: int) -> None:
     """The thread after the fewest turns by which so many instructions are counted."""
     stop = None
     while thread.count < count:
@@ -63,7 +66,7 @@ def run_to(thread, count):
         raise Ends(DIFFERS, f"differs: endsearly {thread.count} {stop}\n")
 
 
-def ckpt(file, report, of, count):
+def ckpt(file: bytes, report: bytes, of: int, count: int) -> tuple[int, bytes]:
     """The status and the bytes."""
     try:
         options, _, theirs = opened(file, report, of)
@@ -83,14 +86,14 @@ def ckpt(file, report, of, count):
 class Reader:
     """A walk over the fields of a file, with their places."""
 
-    def __init__(self, file):
+    def __init__(self, file: bytes) -> None:
         self.file, self.at, self.places, self.parts = file, 0, [], {}
 
-    def part(self, name):
+    def part(self, name: str) -> None:
         """The part of that name begins with the next field."""
         self.parts[name] = len(self.places)
 
-    def field(self, size, test=lambda value: True):
+    def field(self, size: int, test: Callable[..., Any] = lambda value: True) -> bytes:
         """The bytes of the next field."""
         value = self.file[self.at:self.at + size]
         if len(value) < size or not test(value):
@@ -99,11 +102,11 @@ class Reader:
         self.at += size
         return value
 
-    def number(self, size, test=lambda value: True):
+    def number(self, size: int, test: Callable[..., Any] = lambda value: True) -> int:
         return int.from_bytes(self.field(size, lambda value: test(int.from_bytes(value, "little"))), "little")
 
 
-def read(content, digest, options, blocks):
+def read(content: bytes, digest: str, options: Any, blocks: Any) -> Any:
     """The values of a checkpoint's fields, for a report with that digest and those options, and the journal and the count of each thread's block."""
     reader, state = Reader(content), {}
     reader.field(8, lambda tag: tag == TAG)
@@ -150,7 +153,7 @@ def read(content, digest, options, blocks):
 NOTHING = bytes(64)
 
 
-def thread_of(state, options, events):
+def thread_of(state: Any, options: Any, events: Any) -> Replayed:
     """The thread that a state is of, whose next operations are answered by the events that it has not used."""
     thread = Replayed(NOTHING, options, events, state["number"])
     for name in ("count", "depth", "turns", "pc", "sp", "x", "tpidr", "tpidr2", "held", "mask", "handlers", "output", "pages"):
@@ -165,16 +168,17 @@ def thread_of(state, options, events):
     return thread
 
 
-def read_for(content, report):
+def read_for(content: bytes, report: bytes) -> tuple[dict[str, int | list[int]], Reader]:
     """The values of the fields of a checkpoint and the walk over them, for a report that is in the format."""
     lines = report.decode().splitlines()
-    options = {name: int(value) for name, value in re.findall(r"(\w+)=(\d+)", lines[1])} | {"kernel": int(lines[0].split()[1])}
+    options = {name: int(value) for name, value in re.findall(r"(\w+)=(\d+)", lines[1])}
+    options["kernel"] = int(lines[0].split()[1])
     blocks = [(int(count), int(events)) for count, events in zip(re.findall(r"^count (\d+)$", report.decode(), re.MULTILINE),
                                                                  re.findall(r"^journal (\d+)$", report.decode(), re.MULTILINE))]
     return read(content, lines[2].split()[1], options, blocks)
 
 
-def resume(file, report, content):
+def resume(file: bytes, report: bytes, content: bytes) -> Any:
     """The status and the text: each file is looked at in its turn, and then whether the report is that of the program."""
     try:
         in_format(report)
@@ -191,7 +195,7 @@ def resume(file, report, content):
     return compared(block(thread, stop, state["number"]), theirs, start)
 
 
-def main():
+def main() -> Any:
     words = parser(__doc__)
     words.add_argument("command", choices=("ckpt", "resume"))
     words.add_argument("names", nargs="+", metavar="WORD", help="the words of that command")
@@ -201,6 +205,6 @@ def main():
         status, text = ckpt(file, report, *map(int, names[2:]))
         sys.stdout.buffer.write(text)
         return status
-    status, text = resume(file, report, open(names[2], "rb").read())
-    sys.stdout.write(text)
+    status, said = resume(file, report, open(names[2], "rb").read())
+    sys.stdout.write(said)
     return status

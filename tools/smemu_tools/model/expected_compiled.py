@@ -2,19 +2,22 @@
 
 `execute` gives the address of the next instruction, and None where the word is none of these.
 """
+from __future__ import annotations
+
+from typing import Any
 from smemu_tools.model.expected_vectors import LOADS, MASK, signed
 
 
-def ones(count):
+def ones(count: int) -> int:
     return (1 << count) - 1
 
 
-def turned(value, amount, width):
+def turned(value: int, amount: int, width: int) -> int:
     """The value of that width, turned right."""
     return (value >> amount | value << width - amount) & ones(width)
 
 
-def shifted(value, kind, amount, width):
+def shifted(value: int, kind: int, amount: int, width: int) -> int:
     """LSL, LSR, ASR and ROR, by their numbers."""
     value &= ones(width)
     if kind == 0:
@@ -26,14 +29,14 @@ def shifted(value, kind, amount, width):
     return turned(value, amount, width)
 
 
-def extended(value, option, amount):
+def extended(value: int, option: int, amount: int) -> int:
     """UXTB to UXTX and SXTB to SXTX, by their numbers, and shifted left."""
     width = 8 << (option & 3)
     value = signed(value, width) if option & 4 else value & ones(width)
     return value << amount
 
 
-def mask_of(word, width):
+def mask_of(word: int, width: int) -> int | None:
     """The bit mask of a logical immediate; None where there is none."""
     n, immr, imms = word >> 22 & 1, word >> 16 & 63, word >> 10 & 63
     length = (n << 6 | imms ^ 63).bit_length() - 1
@@ -44,7 +47,7 @@ def mask_of(word, width):
     return sum(element << at for at in range(0, width, size))
 
 
-def logic(word, thread, a, b, width):
+def logic(word: int, thread: Any, a: int, b: int, width: int) -> int:
     """AND, ORR, EOR and ANDS, by their numbers, of two values."""
     kind = word >> 29 & 3
     result = (a & b, a | b, a ^ b, a & b)[kind] & ones(width)
@@ -53,7 +56,7 @@ def logic(word, thread, a, b, width):
     return result
 
 
-def logical_immediate(word, thread, width):
+def logical_immediate(word: int, thread: Any, width: int) -> int | None:
     mask = mask_of(word, width)
     if mask is None:
         return None
@@ -62,7 +65,7 @@ def logical_immediate(word, thread, width):
     return thread.pc + 4
 
 
-def logical_register(word, thread, width):
+def logical_register(word: int, thread: Any, width: int) -> int | None:
     amount = word >> 10 & 63
     if amount >= width:
         return None
@@ -73,7 +76,7 @@ def logical_register(word, thread, width):
     return thread.pc + 4
 
 
-def add_shifted(word, thread, width):
+def add_shifted(word: int, thread: Any, width: int) -> int | None:
     amount, kind = word >> 10 & 63, word >> 22 & 3
     if amount >= width or kind == 3:
         return None
@@ -82,7 +85,7 @@ def add_shifted(word, thread, width):
     return thread.pc + 4
 
 
-def add_extended(word, thread, width):
+def add_extended(word: int, thread: Any, width: int) -> int | None:
     amount, rn = word >> 10 & 7, word >> 5 & 31
     if amount > 4:
         return None
@@ -91,7 +94,7 @@ def add_extended(word, thread, width):
     return thread.pc + 4
 
 
-def bit_field(word, thread, width):
+def bit_field(word: int, thread: Any, width: int) -> int | None:
     """SBFM, BFM and UBFM, by their numbers."""
     kind, immr, imms = word >> 29 & 3, word >> 16 & 63, word >> 10 & 63
     if kind == 3 or word >> 22 & 1 != word >> 31 or max(immr, imms) >= width:
@@ -106,7 +109,7 @@ def bit_field(word, thread, width):
     return thread.pc + 4
 
 
-def select(word, thread, width):
+def select(word: int, thread: Any, width: int) -> int:
     """CSEL, CSINC, CSINV and CSNEG."""
     value = thread.read(word >> 5 & 31)
     if not thread.holds(word >> 12 & 15):
@@ -117,7 +120,7 @@ def select(word, thread, width):
     return thread.pc + 4
 
 
-def compare(word, thread, width):
+def compare(word: int, thread: Any, width: int) -> int:
     """CCMN and CCMP, with a register or a number."""
     flags = [word >> k & 1 for k in (3, 2, 1, 0)]
     if thread.holds(word >> 12 & 15):
@@ -128,7 +131,7 @@ def compare(word, thread, width):
     return thread.pc + 4
 
 
-def products(word, thread, width):
+def products(word: int, thread: Any, width: int) -> int | None:
     """MADD, MSUB, those of W registers to X, SMULH and UMULH."""
     kind, a, b = word >> 21 & 7, thread.read(word >> 5 & 31), thread.read(word >> 16 & 31)
     if kind and not word >> 31 or kind in (3, 4, 7):
@@ -144,13 +147,13 @@ def products(word, thread, width):
     return thread.pc + 4
 
 
-def test_and_branch(word, thread, width):
+def test_and_branch(word: int, thread: Any, width: int) -> int:
     """TBZ and TBNZ."""
     bit = thread.read(word & 31) >> (word >> 31 << 5 | word >> 19 & 31) & 1
     return thread.pc + 4 * signed(word >> 5, 14) if bit == word >> 24 & 1 else thread.pc + 4
 
 
-def indexed_access(word, thread, width):
+def indexed_access(word: int, thread: Any, width: int) -> int | None:
     """A load or a store whose index is extended."""
     size, rn, option = 1 << (word >> 30), word >> 5 & 31, word >> 13 & 7
     if option not in (2, 6, 7):
@@ -160,13 +163,13 @@ def indexed_access(word, thread, width):
     return thread.transfer(word, size, base + index & MASK, word & 31, rn, thread.pc + 4)
 
 
-def length_in_register(word, thread, width):
+def length_in_register(word: int, thread: Any, width: int) -> int:
     """RDVL."""
     thread.write(word & 31, signed(word >> 5, 6) * thread.vectors.length & MASK, False)
     return thread.pc + 4
 
 
-def length_added(word, thread, width):
+def length_added(word: int, thread: Any, width: int) -> int:
     """ADDVL counts in bytes of a vector, ADDPL in those of a predicate."""
     rn, unit = word >> 16 & 31, thread.vectors.length // (8 if word >> 22 & 1 else 1)
     base = thread.sp if rn == 31 else thread.x[rn]
@@ -174,7 +177,7 @@ def length_added(word, thread, width):
     return thread.pc + 4
 
 
-def sum_of_vector(word, thread, width):
+def sum_of_vector(word: int, thread: Any, width: int) -> int | None:
     """SADDV and UADDV."""
     size, unsigned = 1 << (word >> 22 & 3), word >> 16 & 1
     if size == 8 and not unsigned:
@@ -186,7 +189,7 @@ def sum_of_vector(word, thread, width):
     return thread.pc + 4
 
 
-def long_products(word, thread, width):
+def long_products(word: int, thread: Any, width: int) -> int | None:
     """SMULLB, SMULLT, UMULLB and UMULLT, and SMLALB and so on, which add."""
     size, adds = 1 << (word >> 22 & 3), not word >> 24 & 1
     if size == 1:
@@ -198,7 +201,7 @@ def long_products(word, thread, width):
     return thread.pc + 4
 
 
-def copied_register(word, thread, width):
+def copied_register(word: int, thread: Any, width: int) -> int:
     """DUP of a general register, or SP."""
     size, rn = 1 << (word >> 22 & 3), word >> 5 & 31
     value = thread.sp if rn == 31 else thread.x[rn]
@@ -206,7 +209,7 @@ def copied_register(word, thread, width):
     return thread.pc + 4
 
 
-def spilled(word, thread, width):
+def spilled(word: int, thread: Any, width: int) -> int | None:
     """LDR and STR of a vector or a predicate."""
     vectors, rn, loads = thread.vectors, word >> 5 & 31, word >> 29 == 4
     is_vector = word >> 14 & 1
@@ -229,7 +232,7 @@ def spilled(word, thread, width):
     return thread.pc + 4
 
 
-def vector_at_number(word, thread, width):
+def vector_at_number(word: int, thread: Any, width: int) -> int | None:
     """Contiguous loads and stores at a multiple of what they transfer."""
     vectors, rn, loads = thread.vectors, word >> 5 & 31, word >> 29 == 5
     if loads:
@@ -266,7 +269,7 @@ ROWS = (
     (0xFFC0A000, 0xE5800000, spilled), (0xFE10E000, 0xA400A000, vector_at_number), (0xFE10E000, 0xE400E000, vector_at_number))
 
 
-def execute(word, thread):
+def execute(word: int, thread: Any) -> int | None:
     for mask, value, what in ROWS:
         if word & mask == value:
             return what(word, thread, 64 if word >> 31 else 32)

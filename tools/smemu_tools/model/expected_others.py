@@ -3,30 +3,33 @@
 `execute` gives the address of the next instruction, and None where the word is none of these. With those of expected.py and of the modules
 beside it these are all instructions that the emulator has; `has_no_row` tells which words the interpreters would take and the tables have not.
 """
+from __future__ import annotations
+
+from typing import Any
 from smemu_tools.model.expected_compiled import mask_of, ones, shifted
 from smemu_tools.model.expected_vectors import signed
 
 
-def bits(word, high, low):
+def bits(word: int, high: int, low: int) -> int:
     return word >> low & ones(high - low + 1)
 
 
-def leading(value, width):
+def leading(value: int, width: int) -> int:
     """How many bits from the top on are zero."""
     return width - value.bit_length()
 
 
-def leading_signs(value, width):
+def leading_signs(value: Any, width: Any) -> Any:
     """How many bits below the top one equal it without a break."""
     return leading(value ^ (ones(width) if value >> width - 1 else 0), width) - 1
 
 
-def quotient(a, b):
+def quotient(a: int, b: int) -> int:
     """Rounded towards zero; 0 where the divisor is."""
     return 0 if b == 0 else abs(a) // abs(b) * (1 if (a < 0) == (b < 0) else -1)
 
 
-def parts(value, size, width):
+def parts(value: int, size: int, width: int) -> int:
     """The bytes of each part of so many bits in reverse."""
     return sum(int.from_bytes((value >> at & ones(size)).to_bytes(size // 8, "little"), "big") << at for at in range(0, width, size))
 
@@ -34,7 +37,7 @@ def parts(value, size, width):
 # ---- scalar instructions
 
 
-def extract(word, thread, width):
+def extract(word: int, thread: Any, width: int) -> Any:
     """EXTR."""
     amount = bits(word, 15, 10)
     if bits(word, 22, 22) != word >> 31 or amount >= width:
@@ -43,7 +46,7 @@ def extract(word, thread, width):
     thread.write(bits(word, 4, 0), (high << width | low) >> amount & ones(width), False)
 
 
-def with_carry(word, thread, width):
+def with_carry(word: int, thread: Any, width: int) -> None:
     """ADC, ADCS, SBC and SBCS."""
     a, b, carry = thread.read(bits(word, 9, 5)) & ones(width), thread.read(bits(word, 20, 16)) & ones(width), int(thread.flags[2])
     b ^= ones(width) if word >> 30 & 1 else 0
@@ -54,7 +57,7 @@ def with_carry(word, thread, width):
     thread.write(bits(word, 4, 0), result, False)
 
 
-def one_source(word, thread, width):
+def one_source(word: int, thread: Any, width: int) -> Any:
     """RBIT, REV16, REV32 (and REV of W registers), REV, CLZ and CLS, by their numbers."""
     value, kind = thread.read(bits(word, 9, 5)) & ones(width), bits(word, 15, 10)
     if kind > 5 or kind == 3 and width == 32:
@@ -64,7 +67,7 @@ def one_source(word, thread, width):
     thread.write(bits(word, 4, 0), result, False)
 
 
-def two_sources(word, thread, width):
+def two_sources(word: int, thread: Any, width: int) -> Any:
     """UDIV, SDIV, and the shifts by a register."""
     a, b, kind = thread.read(bits(word, 9, 5)) & ones(width), thread.read(bits(word, 20, 16)) & ones(width), bits(word, 15, 10)
     if kind == 2:
@@ -78,12 +81,12 @@ def two_sources(word, thread, width):
     thread.write(bits(word, 4, 0), result, False)
 
 
-def barrier(word, thread, width):
+def barrier(word: int, thread: Any, width: int) -> bool:
     """DSB, DMB and ISB."""
     return bits(word, 7, 5) in (4, 5, 6)
 
 
-def move_flags(word, thread, width):
+def move_flags(word: int, thread: Any, width: int) -> None:
     """MRS and MSR of NZCV."""
     if word >> 21 & 1:
         thread.write(bits(word, 4, 0), sum(int(flag) << 31 - k for k, flag in enumerate(thread.flags)), False)
@@ -98,40 +101,40 @@ def move_flags(word, thread, width):
 class Operands:
     """The fields of an instruction on vectors, and elements of their registers."""
 
-    def __init__(self, word, thread, size=None):
+    def __init__(self, word: int, thread: Any, size: int | None = None) -> None:
         self.word, self.vectors = word, thread.vectors
         self.size = size or 1 << bits(word, 23, 22)
         self.width, self.count = 8 * self.size, self.vectors.length // self.size
         self.rd, self.rn, self.rm, self.governing = bits(word, 4, 0), bits(word, 9, 5), bits(word, 20, 16), bits(word, 12, 10)
 
-    def elements(self, number, is_signed=False, size=None):
+    def elements(self, number: int, is_signed: int = False, size: int | None = None) -> list[int]:
         size = size or self.size
         return [signed(value, 8 * size) if is_signed else value for value in self.vectors.elements(number, size)]
 
-    def active(self, number=None, size=None):
+    def active(self, number: int | None = None, size: Any = None) -> list[bool]:
         return self.vectors.active(self.governing if number is None else number, size or self.size)
 
-    def put(self, values):
+    def put(self, values: list[int]) -> None:
         self.vectors.put(self.rd, self.size, values)
 
-    def merge(self, values, number=None):
+    def merge(self, values: list[int], number: Any = None) -> None:
         """The values where the elements are active; others stay."""
         self.put([value if on else old for on, value, old in zip(self.active(number), values, self.elements(self.rd))])
 
 
-def logical(word, thread, width):
+def logical(word: Any, thread: Any, width: Any) -> None:
     it = Operands(word, thread, 8)
     act = (lambda a, b: a & b, lambda a, b: a | b, lambda a, b: a ^ b, lambda a, b: a & ~b)[bits(word, 23, 22)]
     it.put([act(a, b) for a, b in zip(it.elements(it.rn), it.elements(it.rm))])
 
 
 # of each number 20:16 whether the elements have signs, and the result
-PREDICATED = {0: (0, lambda a, b: a + b), 1: (0, lambda a, b: a - b), 3: (0, lambda a, b: b - a), 8: (1, max), 9: (0, max), 10: (1, min), 11: (0, min),
+PREDICATED: dict[int, Any] = {0: (0, lambda a, b: a + b), 1: (0, lambda a, b: a - b), 3: (0, lambda a, b: b - a), 8: (1, max), 9: (0, max), 10: (1, min), 11: (0, min),
               12: (1, lambda a, b: abs(a - b)), 13: (0, lambda a, b: abs(a - b)), 16: (0, lambda a, b: a * b), 20: (1, quotient), 21: (0, quotient),
               24: (0, lambda a, b: a | b), 25: (0, lambda a, b: a ^ b), 26: (0, lambda a, b: a & b), 27: (0, lambda a, b: a & ~b)}
 
 
-def predicated(word, thread, width):
+def predicated(word: int, thread: Any, width: int) -> Any:
     it = Operands(word, thread)
     high = lambda a, b: a * b >> it.width
     known = {**PREDICATED, 18: (1, high), 19: (0, high)}
@@ -141,7 +144,7 @@ def predicated(word, thread, width):
     it.merge([act(a, b) for a, b in zip(it.elements(it.rd, is_signed), it.elements(it.rn, is_signed))])
 
 
-def predicated_shift(word, thread, width):
+def predicated_shift(word: int, thread: Any, width: int) -> Any:
     """ASR, LSR and LSL by the elements of a vector."""
     it = Operands(word, thread)
     if it.rm not in (16, 17, 19):
@@ -150,25 +153,25 @@ def predicated_shift(word, thread, width):
     it.merge([act(a, min(n, it.width)) for a, n in zip(it.elements(it.rd, it.rm == 16), it.elements(it.rn))])
 
 
-def multiply_add(word, thread, width):
+def multiply_add(word: int, thread: Any, width: int) -> None:
     it = Operands(word, thread)
     products = [a * b for a, b in zip(it.elements(it.rn), it.elements(it.rm))]
     it.merge([old - product if word >> 13 & 1 else old + product for old, product in zip(it.elements(it.rd), products)])
 
 
-def unary(word, thread, width):
+def unary(word: int, thread: Any, width: int) -> Any:
     it = Operands(word, thread)
     extend = lambda size, is_signed: lambda a: signed(a, size) if is_signed else a & ones(size)
     # the least size of an element, and the result
     known = {22: (1, lambda a: abs(signed(a, it.width))), 23: (1, lambda a: -a), 24: (1, lambda a: leading_signs(a, it.width)), 25: (1, lambda a: leading(a, it.width)),
-             26: (1, lambda a: a.bit_count()), 27: (1, lambda a: int(a == 0)), 30: (1, lambda a: ~a), 16: (2, extend(8, True)), 17: (2, extend(8, False)),
+             26: (1, lambda a: bin(a).count("1")), 27: (1, lambda a: int(a == 0)), 30: (1, lambda a: ~a), 16: (2, extend(8, True)), 17: (2, extend(8, False)),
              18: (4, extend(16, True)), 19: (4, extend(16, False)), 20: (8, extend(32, True)), 21: (8, extend(32, False))}
     if it.rm not in known or it.size < known[it.rm][0]:
         return False
     it.merge([known[it.rm][1](a) for a in it.elements(it.rn)])
 
 
-def shift(word, thread, width):
+def shift(word: int, thread: Any, width: int) -> Any:
     """ASR, LSR and LSL by a number, which says the size too."""
     amount, kind = bits(word, 23, 22) << 5 | bits(word, 20, 16), bits(word, 11, 10)
     if amount < 8 or kind == 2:
@@ -178,19 +181,19 @@ def shift(word, thread, width):
     it.put([a << by if kind == 3 else a >> by for a in it.elements(it.rn, kind == 0)])
 
 
-def copy_of_register(word, thread, width):
+def copy_of_register(word: Any, thread: Any, width: Any) -> None:
     """CPY of a general register, or SP."""
     it = Operands(word, thread)
     it.merge([thread.sp if it.rn == 31 else thread.x[it.rn]] * it.count)
 
 
-def immediate(word, is_signed):
+def immediate(word: Any, is_signed: Any) -> Any:
     """Eight bits, shifted by eight where bit 13 is set; there is no such byte."""
     value = signed(word >> 5, 8) if is_signed else bits(word, 12, 5)
     return None if bits(word, 23, 22) == 0 and word >> 13 & 1 else value << 8 * bits(word, 13, 13)
 
 
-def copy_of_number(word, thread, width):
+def copy_of_number(word: Any, thread: Any, width: Any) -> Any:
     it, value = Operands(word, thread), immediate(word, True)
     if value is None:
         return False
@@ -198,7 +201,7 @@ def copy_of_number(word, thread, width):
     it.put([value if on else old * merging for on, old in zip(it.active(mask), it.elements(it.rd))])
 
 
-def index(word, thread, width):
+def index(word: int, thread: Any, width: int) -> None:
     """INDEX with a start or a step in a general register."""
     it = Operands(word, thread)
     start = thread.read(it.rn) if word >> 10 & 1 else signed(it.rn, 5)
@@ -206,7 +209,7 @@ def index(word, thread, width):
     it.put([start + e * step for e in range(it.count)])
 
 
-def add_number(word, thread, width):
+def add_number(word: Any, thread: Any, width: Any) -> Any:
     """ADD, SUB and SUBR."""
     it, value, kind = Operands(word, thread), immediate(word, False), bits(word, 17, 16)
     if value is None or kind == 2:
@@ -215,17 +218,17 @@ def add_number(word, thread, width):
     it.put([act(a) for a in it.elements(it.rd)])
 
 
-def multiply_number(word, thread, width):
+def multiply_number(word: Any, thread: Any, width: Any) -> None:
     it, value = Operands(word, thread), signed(word >> 5, 8)
     it.put([a * value for a in it.elements(it.rd)])
 
 
-def select(word, thread, width):
+def select(word: int, thread: Any, width: int) -> None:
     it = Operands(word, thread)
     it.put([a if on else b for on, a, b in zip(it.active(bits(word, 13, 10)), it.elements(it.rn), it.elements(it.rm))])
 
 
-def prefix(word, thread, width):
+def prefix(word: Any, thread: Any, width: Any) -> None:
     """MOVPRFX."""
     it = Operands(word, thread, 1)
     it.put(it.elements(it.rn))
@@ -234,7 +237,7 @@ def prefix(word, thread, width):
 # ---- permutes and reductions
 
 
-def interleave(word, thread, width):
+def interleave(word: int, thread: Any, width: int) -> Any:
     """ZIP1, ZIP2, UZP1, UZP2, TRN1 and TRN2, by their numbers."""
     it, kind = Operands(word, thread), bits(word, 12, 10)
     if kind > 5:
@@ -250,25 +253,25 @@ def interleave(word, thread, width):
     it.put([value for pair in pairs for value in pair])
 
 
-def reverse(word, thread, width):
+def reverse(word: Any, thread: Any, width: Any) -> None:
     it = Operands(word, thread)
     it.put(it.elements(it.rn)[::-1])
 
 
-def table(word, thread, width):
+def table(word: int, thread: Any, width: int) -> None:
     it = Operands(word, thread)
     values = it.elements(it.rn)
     it.put([values[place] if place < it.count else 0 for place in it.elements(it.rm)])
 
 
-def extract_bytes(word, thread, width):
+def extract_bytes(word: int, thread: Any, width: int) -> None:
     it = Operands(word, thread, 1)
     start = it.rm << 3 | bits(word, 12, 10)
     start = start if start < it.count else 0
     it.put((it.elements(it.rd) + it.elements(it.rn))[start:start + it.count])
 
 
-def unpack(word, thread, width):
+def unpack(word: Any, thread: Any, width: Any) -> Any:
     """SUNPKLO, SUNPKHI, UUNPKLO and UUNPKHI."""
     it = Operands(word, thread)
     if it.size == 1:
@@ -277,7 +280,7 @@ def unpack(word, thread, width):
     it.put(values[it.count:] if word >> 16 & 1 else values[:it.count])
 
 
-def reduce(word, thread, width):
+def reduce(word: int, thread: Any, width: int) -> Any:
     """ORV, EORV and ANDV."""
     it, kind = Operands(word, thread), bits(word, 17, 16)
     if kind == 3:
@@ -292,7 +295,7 @@ def reduce(word, thread, width):
 # ---- predicates
 
 
-def put_compared(it, thread, truths):
+def put_compared(it: Operands, thread: Any, truths: list[bool]) -> None:
     """The result of a comparison of active elements, and its flags."""
     governing = it.active()
     truths = [on and truth for on, truth in zip(governing, truths)]
@@ -300,7 +303,7 @@ def put_compared(it, thread, truths):
     it.vectors.flags(thread, governing, truths)
 
 
-def compare(word, thread, width):
+def compare(word: int, thread: Any, width: int) -> Any:
     """CMPHS, CMPHI, CMPGE, CMPGT, CMPEQ and CMPNE of two vectors."""
     it = Operands(word, thread)
     known = {(0, 0): (0, lambda a, b: a >= b), (0, 1): (0, lambda a, b: a > b), (4, 0): (1, lambda a, b: a >= b), (4, 1): (1, lambda a, b: a > b),
@@ -311,7 +314,7 @@ def compare(word, thread, width):
     put_compared(it, thread, [holds(a, b) for a, b in zip(it.elements(it.rn, is_signed), it.elements(it.rm, is_signed))])
 
 
-def compare_number(word, thread, width):
+def compare_number(word: int, thread: Any, width: int) -> Any:
     """CMPGE, CMPGT, CMPLT and CMPLE with a number."""
     it, bound = Operands(word, thread), signed(bits(word, 20, 16), 5)
     known = {(0, 0): lambda a: a >= bound, (0, 1): lambda a: a > bound, (1, 0): lambda a: a < bound, (1, 1): lambda a: a <= bound}
@@ -321,13 +324,13 @@ def compare_number(word, thread, width):
     put_compared(it, thread, [holds(a) for a in it.elements(it.rn, True)])
 
 
-def test(word, thread, width):
+def test(word: Any, thread: Any, width: Any) -> None:
     """PTEST."""
     vectors = thread.vectors
     vectors.flags(thread, vectors.p[bits(word, 13, 10)], vectors.p[bits(word, 8, 5)])
 
 
-def logical_predicates(word, thread, width):
+def logical_predicates(word: int, thread: Any, width: int) -> Any:
     """AND, BIC, EOR, SEL, ORR, ORN, NOR and NAND, and those that set the flags."""
     vectors, kind, sets = thread.vectors, word >> 21 & 4 | word >> 8 & 2 | word >> 4 & 1, word >> 22 & 1
     if kind == 3 and sets:
@@ -347,7 +350,7 @@ def logical_predicates(word, thread, width):
 # ---- SVE2
 
 
-def multiply(word, thread, width):
+def multiply(word: int, thread: Any, width: int) -> Any:
     """MUL, SMULH and UMULH."""
     it, kind = Operands(word, thread), bits(word, 11, 10)
     if kind == 1:
@@ -356,7 +359,7 @@ def multiply(word, thread, width):
     it.put([product >> it.width if kind else product for product in products])
 
 
-def ternary(word, thread, width):
+def ternary(word: int, thread: Any, width: int) -> Any:
     """EOR3, BCAX and BSL; the first source is the destination, and the third one stands in 9:5."""
     it, kind = Operands(word, thread, 8), (bits(word, 23, 22), bits(word, 10, 10))
     known = {(0, 0): lambda a, m, k: a ^ m ^ k, (1, 0): lambda a, m, k: a ^ m & ~k, (0, 1): lambda a, m, k: a & k | m & ~k}
@@ -365,7 +368,7 @@ def ternary(word, thread, width):
     it.put([known[kind](a, m, k) for a, m, k in zip(it.elements(it.rd), it.elements(it.rm), it.elements(it.rn))])
 
 
-def long_sum(word, thread, width):
+def long_sum(word: int, thread: Any, width: int) -> Any:
     """SADDLB, SADDLT, UADDLB and UADDLT."""
     it = Operands(word, thread)
     if it.size == 1:
@@ -389,13 +392,13 @@ ROWS = (
 # ---- words without a row
 
 
-def turns_further(word):
+def turns_further(word: int) -> bool:
     """A logical immediate that is turned by more than its element has bits."""
     low = bits(word, 22, 22) << 6 | bits(word, 15, 10) ^ 63
     return mask_of(word, 64 if word >> 31 else 32) is not None and bits(word, 21, 16) >> low.bit_length() - 1 != 0
 
 
-def pair_of_one(word):
+def pair_of_one(word: int) -> int:
     """A load of a pair into one register, or a pair whose base is written and is one of them."""
     rt, rn, second = bits(word, 4, 0), bits(word, 9, 5), bits(word, 14, 10)
     return bits(word, 22, 22) and rt == second or bits(word, 23, 23) and rn != 31 and rn in (rt, second)
@@ -407,12 +410,12 @@ NO_ROWS = (
     (0xFE00E000, 0xE4004000, lambda word: bits(word, 20, 16) == 31 and bits(word, 24, 23) <= bits(word, 22, 21)), (0xFF30FC00, 0x0420E400, lambda word: True))
 
 
-def has_no_row(word):
+def has_no_row(word: int) -> bool:
     """The conditions on fields that the interpreters do not look at; some are those of this emulator's tables alone."""
     return any(word & mask == value and condition(word) for mask, value, condition in NO_ROWS)
 
 
-def execute(word, thread):
+def execute(word: int, thread: Any) -> int | None:
     for mask, value, what in ROWS:
         if word & mask == value and what(word, thread, 64 if word >> 31 else 32) is not False:
             return thread.pc + 4
@@ -422,8 +425,8 @@ def execute(word, thread):
 class KnowsAll:
     """Before a thread's class: the thread knows every instruction."""
 
-    def execute(self, word):
+    def execute(self, word: int) -> int | None:
         if has_no_row(word):
             return None
-        target = super().execute(word)
+        target = super().execute(word)  # type: ignore[misc]
         return execute(word, self) if target is None else target

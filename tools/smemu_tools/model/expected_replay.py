@@ -4,11 +4,14 @@ by the report's journal.
 
     tools/smemu-tools expected-replay FILE REPORT THREAD
 """
+from __future__ import annotations
+
 import hashlib
 import itertools
 import pathlib
 import re
 import sys
+from typing import Any
 
 from smemu_tools import parser
 from smemu_tools.model.expected import SHARED, Raised, Thread, block
@@ -20,12 +23,12 @@ class Parts(Exception):
 
 
 class Replayed(Thread):
-    def __init__(self, file, options, events, number):
+    def __init__(self, file: bytes, options: dict[str, int], events: list[str], number: Any) -> None:
         super().__init__(file, options["budget"], options["vl"], options["svl"], options["slice"], number, options["threads"],
                          options["kernel"])
         self.events = events
 
-    def answer(self, kind, place, a, b=0):
+    def answer(self, kind: str, place: int, a: int, b: int = 0) -> int:
         self.need_room()
         used = len(self.journal)
         if used == len(self.events):
@@ -35,12 +38,12 @@ class Replayed(Thread):
             raise Parts(f"journaldiffers {used}")
         return self.keep(kind, place, a, b, int(answer, 16))
 
-    def ask(self, kind, address, base, a=0, b=0):
+    def ask(self, kind: str, address: int, base: int, a: int = 0, b: int = 0) -> int:
         if base == 31 and self.sp % 16:
             raise Raised("spalign", "")
         return self.answer(kind, (address - SHARED.start) // 8, a, b)
 
-    def ask_signals(self, kind, thread, a=0):
+    def ask_signals(self, kind: str, thread: int, a: int = 0) -> int:
         return self.answer(kind, thread, a)
 
 
@@ -48,10 +51,10 @@ class Ends(Exception):
     """The status and the text with which a command ends."""
 
 
-def block_in(file, lines, number):
+def block_in(file: bytes, lines: list[str], number: int) -> tuple[dict[str, int], int, list[str]]:
     """The options of a report, its version among them as the kernel, and where in it the block of a thread begins, with the block's lines."""
     options = {name: int(value) for name, value in re.findall(r"(\w+)=(\d+)", lines[1])}
-    options["kernel"] = int(lines[0].removeprefix("smemu-report "))
+    options["kernel"] = int(lines[0][len("smemu-report "):])
     if lines[2] != f"image {hashlib.sha256(file).hexdigest()}":
         raise Ends(9, "bad report: line 3: image\n")
     if number >= options["threads"]:
@@ -60,7 +63,7 @@ def block_in(file, lines, number):
     return options, start, lines[start:lines.index("end-thread", start) + 1]
 
 
-def in_format(report):
+def in_format(report: bytes) -> None:
     """Refuses a report that is not in the format."""
     fault = found(report)
     if fault != "read":
@@ -68,13 +71,13 @@ def in_format(report):
         raise Ends(9, f"bad report: line {line}: {part}\n")
 
 
-def opened(file, report, number):
+def opened(file: bytes, report: bytes, number: Any) -> tuple[dict[str, int], int, list[str]]:
     """What `block_in` gives of a report that is yet to be looked at."""
     in_format(report)
     return block_in(file, report.decode().splitlines(), number)
 
 
-def run_alone(thread, count):
+def run_alone(thread: Replayed, count: int) -> str:
     """How the thread stops, which is to be at that count, with all events used."""
     stop = None
     while stop is None:
@@ -91,15 +94,15 @@ def run_alone(thread, count):
     return stop
 
 
-def events_of(block):
+def events_of(block: list[str]) -> list[str]:
     return [line for line in block if line.startswith("e ")]
 
 
-def count_of(block):
+def count_of(block: list[str]) -> int:
     return int(block[2].split()[1])
 
 
-def compared(ours, theirs, start):
+def compared(ours: list[str], theirs: list[str], start: int) -> tuple[int, str]:
     """The status and the text where a block is to be that of the report, which begins at that line."""
     for line, (a, b) in enumerate(itertools.zip_longest(theirs, ours, fillvalue=""), start + 1):
         if a != b:
@@ -107,7 +110,7 @@ def compared(ours, theirs, start):
     return 0, "".join(line + "\n" for line in ours)
 
 
-def replay(file, report, number=0):
+def replay(file: bytes, report: str, number: int = 0) -> Any:
     """The status and the text."""
     try:
         options, start, theirs = block_in(file, report.splitlines(), number)
@@ -118,7 +121,7 @@ def replay(file, report, number=0):
     return compared(block(thread, stop, number), theirs, start)
 
 
-def main():
+def main() -> Any:
     words = parser(__doc__)
     words.add_argument("program", type=pathlib.Path, metavar="PROGRAM")
     words.add_argument("report", type=pathlib.Path, metavar="REPORT")

@@ -2,7 +2,10 @@
 
 Kernel 2 has besides a mask of signals that wait, and handlers within handlers; its frame has the mask and the depth before the delivery, at 320.
 """
+from __future__ import annotations
+
 import struct
+from typing import Any
 
 from smemu_tools.model.expected_vectors import MASK, Vectors
 
@@ -18,15 +21,15 @@ class BadFrame(Exception):
     """The frame cannot be written or read, or is none."""
 
 
-def bits(truths):
+def bits(truths: list[bool]) -> bytes:
     return bytes(sum(truths[at + k] << k for k in range(8)) for at in range(0, len(truths), 8))
 
 
-def truths(packed):
+def truths(packed: bytes) -> list[bool]:
     return [bool(byte >> k & 1) for byte in packed for k in range(8)]
 
 
-def frame(thread, signal):
+def frame(thread: Any, signal: int) -> bytes:
     """The bytes of the frame of a thread."""
     vectors, matrix = thread.vectors, thread.matrix
     length, array = vectors.length, matrix.lengths[1]
@@ -41,7 +44,7 @@ def frame(thread, signal):
     return head + rest + (b"".join(map(bytes, matrix.za)) if matrix.on else b"")
 
 
-def deliver(thread, signal):
+def deliver(thread: Any, signal: int) -> None:
     """Writes the frame and begins the handler."""
     content = frame(thread, signal)
     address = (thread.sp - len(content) & MASK) // 16 * 16
@@ -57,7 +60,7 @@ def deliver(thread, signal):
         thread.mask |= 1 << signal
 
 
-def read(thread, count):
+def read(thread: Any, count: int) -> bytes:
     """That many bytes from SP on."""
     for k in range(count):
         if thread.bytes_with(4, thread.sp + k, 1) is None:
@@ -65,7 +68,7 @@ def read(thread, count):
     return thread.bytes_with(4, thread.sp, count)
 
 
-def come_back(thread):
+def come_back(thread: Any) -> None:
     """Returns from a handler."""
     start = HEADS[thread.kernel]
     head = read(thread, start)
@@ -97,7 +100,7 @@ def come_back(thread):
     thread.mask, thread.depth = mask, depth
 
 
-def set_mask(thread):
+def set_mask(thread: Any) -> int:
     """The answer of the call, which is the mask before it."""
     how, signals, before = thread.x[0], thread.x[1] & SIGNALS, thread.mask
     if how > 2:

@@ -3,7 +3,10 @@
 It shares nothing with the emulator. `loaded` gives the listing of a file's code words as pairs of an address and a word, or raises Refused with the
 line that is written. Which words mean an instruction is asked for by a function, since the tables of crates/smemu_rows/data say it of theirs alone.
 """
+from __future__ import annotations
+
 import struct
+from typing import Any, Callable, Iterable
 
 FILE_LIMIT, PAGE, STACK_PAGES, PAGE_LIMIT = 67_108_864, 4096, 64, 4096
 RESERVED = range(0x7DFFFFFC0000, 0x7F0000001000)
@@ -19,26 +22,26 @@ class Refused(Exception):
 class Load:
     """A segment that is loaded: its index, its addresses, its flags and its bytes in the file."""
 
-    def __init__(self, index, flags, address, memory, content):
+    def __init__(self, index: int, flags: int, address: int, memory: int, content: bytes) -> None:
         self.index, self.flags, self.address, self.end, self.content = index, flags, address, address + memory, content
 
-    def byte(self, address):
+    def byte(self, address: int) -> int:
         at = address - self.address
         return self.content[at] if at < len(self.content) else 0
 
-    def pages(self):
+    def pages(self) -> Iterable[Any]:
         return range(self.address // PAGE, (self.end - 1) // PAGE + 1)
 
 
-def truncated(file):
+def truncated(file: bytes) -> None:
     raise Refused(f"truncated {len(file)}")
 
 
-def bad_table(place):
+def bad_table(place: int) -> None:
     raise Refused(f"badtable {place}")
 
 
-def check_header(file):
+def check_header(file: bytes) -> tuple[int, ...]:
     """The header's fields that are looked at later: entry, places, sizes and numbers of both tables, in the order of the header."""
     if len(file) > FILE_LIMIT:
         raise Refused("toolong")
@@ -59,7 +62,7 @@ def check_header(file):
     return entry, heads, count, sections, section_size, section_count
 
 
-def load_of(file, index, place):
+def load_of(file: bytes, index: int, place: int) -> Load | None:
     """The load of a program header; None of one that is passed over."""
     kind, flags, offset, address, _, size, memory, _ = struct.unpack_from(PROGRAM_HEADER, file, place)
     if kind in NOT_STATIC:
@@ -79,7 +82,7 @@ def load_of(file, index, place):
     return Load(index, flags & 7, address, memory, file[offset:offset + size])
 
 
-def check_together(loads, entry):
+def check_together(loads: Any, entry: int) -> None:
     """The checks on all loads."""
     for i, a in enumerate(loads):
         for b in loads[i + 1:]:
@@ -95,7 +98,7 @@ def check_together(loads, entry):
         raise Refused(f"entryoutside 0x{entry:016x}")
 
 
-def covered(loads, start, end):
+def covered(loads: list[Load], start: int, end: int) -> bool:
     """Tells whether each address from `start` to `end` is in a load."""
     while start < end:
         load = next((load for load in loads if load.address <= start < load.end), None)
@@ -105,11 +108,11 @@ def covered(loads, start, end):
     return True
 
 
-def inside(file, header):
+def inside(file: bytes, header: tuple[int, ...]) -> bool:
     return header[4] + header[5] <= len(file)
 
 
-def marks_of(file, headers, header, place):
+def marks_of(file: bytes, headers: list[tuple[int, ...]], header: tuple[int, ...], place: int) -> list[tuple[int, int, bool]]:
     """The mapping symbols of a symbol table: section, value and whether code begins."""
     if header[9] != 24 or header[6] >= len(headers):
         bad_table(place)
@@ -129,7 +132,7 @@ def marks_of(file, headers, header, place):
     return marks
 
 
-def check_sections(file, loads, at, size, count):
+def check_sections(file: bytes, loads: list[Load], at: int, size: int, count: int) -> tuple[list[tuple[int, int, int]], list[tuple[int, int, bool]]]:
     """The code sections, each with its number, and the mapping symbols in the order in which a later one wins."""
     if at == 0:
         return [], []
@@ -150,7 +153,7 @@ def check_sections(file, loads, at, size, count):
     return code, marks
 
 
-def is_code(marks, section, address):
+def is_code(marks: list[tuple[int, int, bool]], section: int, address: int) -> bool:
     """What the mapping symbols of a section say of an address."""
     values = [value for of, value, _ in marks if of == section and value <= address]
     if not values:
@@ -158,11 +161,11 @@ def is_code(marks, section, address):
     return [begins for of, value, begins in marks if of == section and value == max(values)][-1]
 
 
-def word_at(loads, address):
+def word_at(loads: list[Load], address: int) -> int:
     return sum(next(load for load in loads if load.address <= at < load.end).byte(at) << 8 * k for k, at in enumerate(range(address, address + 4)))
 
 
-def loaded(file, means):
+def loaded(file: bytes, means: Callable[..., Any]) -> list[tuple[int, int]]:
     """The code words of a file in the order of their addresses."""
     entry, heads, count, sections_at, section_size, section_count = check_header(file)
     loads = [load for i in range(count) if (load := load_of(file, i, heads + 56 * i))]

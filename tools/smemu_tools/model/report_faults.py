@@ -4,7 +4,10 @@ to try; tools/smemu_tools/rows/altered.py asks it.
 It shares nothing with the emulator: each kind of line is a regular expression, and a report is a walk through the kinds that may follow.
 A change is a range of bytes of the report, and the bytes that take its place; what is found then is a line and a part, or `read`.
 """
+from __future__ import annotations
+
 import re
+from typing import Any, Callable, Iterator
 
 D = r"(?:0|[1-9][0-9]*)"
 H = r"[0-9a-f]{16}"
@@ -17,7 +20,7 @@ RAISED = {
 STOPS = [f"exited ({D})", f"killed ({D})", f"badframe {H}", "budget", "tracefull", "outputfull",
          *(f"raised {name} {H}{values}" for name, values in RAISED.items())]
 # a kind of line: its form, and the least number that is too large for each number in it
-LINES = {
+LINES: dict[str, Any] = {
     "header": ("smemu-report ([12])", ()),
     "options": (f"options vl=({D}) svl=({D}) slice=({D}) budget=({D}) threads=({D})", (2049, 2049, 1000001, 2**32, 33)),
     "image": (f"image {DIGEST}", ()),
@@ -61,7 +64,7 @@ class Faulty(Exception):
     pass
 
 
-def numbers(kind, line):
+def numbers(kind: str, line: bytes) -> list[int] | None:
     """The numbers of a line of the kind, or None."""
     if kind == "stop":
         for form in STOPS:
@@ -87,23 +90,23 @@ def numbers(kind, line):
     return values
 
 
-def read(report):
+def read(report: bytes) -> None:
     """Walks through a report; raises Faulty at the first line at fault."""
     lines = report.split(b"\n")
     lines = [line + b"\n" for line in lines[:-1]] + ([lines[-1]] if lines[-1] else [])
     at = 0
 
-    def next_line():
+    def next_line() -> bytes:
         return lines[at] if at < len(lines) else b""
 
-    def fault(part):
+    def fault(part: str) -> None:
         try:
             next_line().decode()
         except UnicodeDecodeError:
             part = "nottext"
         raise Faulty(f"{at + 1} {part}")
 
-    def one(kind, part, test=lambda values: True):
+    def one(kind: str, part: str, test: Callable[..., Any] = lambda values: True) -> list[int]:
         nonlocal at
         values = numbers(kind, next_line())
         if values is None or not test(values):
@@ -111,7 +114,7 @@ def read(report):
         at += 1
         return values
 
-    def begins(*names):
+    def begins(*names: Any) -> Any:
         return re.split(rb"[ \n]", next_line(), maxsplit=1)[0] in names
 
     version, = one("header", "header")
@@ -148,7 +151,7 @@ def read(report):
         fault("end")
 
 
-def found(report):
+def found(report: bytes) -> str:
     try:
         read(report)
     except Faulty as fault:
@@ -156,7 +159,7 @@ def found(report):
     return "read"
 
 
-def h(n):
+def h(n: int) -> str:
     return f"{n:016x}"
 
 
@@ -167,7 +170,7 @@ ZERO = h(0)
 MASKING = {1: ["inside 0"], 2: [f"mask {h(0x28)}", "depth 2"]}
 
 
-def of_two_threads(digest, second, version):
+def of_two_threads(digest: Any, second: Any, version: Any) -> Any:
     """A report of two threads, the first with each kind of line; the block of the second is given, as the digest of the program."""
     return "\n".join([
         f"smemu-report {version}",
@@ -196,7 +199,7 @@ STOP_WORDS = [
         "shared": ["", f" {ZERO}"], "unaligned": [""]}.items() for value in values),
 ]
 
-def version_changes(report, version):
+def version_changes(report: Any, version: Any) -> Iterator[Any]:
     """Lines of the other version, and of both, in the place of those of the first block that say which signals wait."""
     own = "".join(line + "\n" for line in MASKING[version]).encode()
     start = report.index(own)
@@ -208,7 +211,7 @@ def version_changes(report, version):
         yield len(b"smemu-report "), len(b"smemu-report 1"), number
 
 
-def line_moves(report, spans, k):
+def line_moves(report: Any, spans: Any, k: Any) -> Iterator[Any]:
     """The line removed, doubled and swapped with the next."""
     start, end = spans[k]
     yield start, end, b""
@@ -217,7 +220,7 @@ def line_moves(report, spans, k):
         yield start, spans[k + 1][1], report[end:spans[k + 1][1]] + report[start:end]
 
 
-def line_ends(report, start, end):
+def line_ends(report: Any, start: Any, end: Any) -> Iterator[Any]:
     """The report cut after the line, its line feed taken away, and bytes put into it."""
     yield end, len(report), b""
     yield end - 1, len(report), b""
@@ -226,7 +229,7 @@ def line_ends(report, start, end):
     yield end - 1, end - 1, b"\xc3\xa9"
 
 
-def byte_changes(line, start):
+def byte_changes(line: Any, start: Any) -> Iterator[Any]:
     """The bytes of the line at which something begins, and its last one, each changed."""
     for i, byte in enumerate(line[:-1]):
         if i == 0 or line[i - 1:i] in b" =-" or line[i:i + 1] in b" =" or i + 2 == len(line):
@@ -236,13 +239,13 @@ def byte_changes(line, start):
                 yield start + i, start + i, b"0"
 
 
-def spans_of(report):
+def spans_of(report: Any) -> Any:
     """Where the lines of a report begin and end."""
     starts = [0] + [i + 1 for i, byte in enumerate(report) if byte == 10]
     return list(zip(starts, starts[1:]))
 
 
-def changes(report, kept=range(0)):
+def changes(report: Any, kept: Any = range(0)) -> Iterator[Any]:
     """Of each line of a report its changes; no byte is changed of those that begin in `kept`."""
     spans = spans_of(report)
     yield 0, 0, b""
@@ -254,7 +257,7 @@ def changes(report, kept=range(0)):
             yield from byte_changes(report[start:end], start)
 
 
-def changes_of_two_threads(report, version):
+def changes_of_two_threads(report: Any, version: Any) -> Iterator[Any]:
     """The changes of such a report, of whose second block no byte is changed, lines of the other version, and fields that are just inside or outside
     of what they may be."""
     yield from changes(report, range(report.index(b"thread 1"), report.index(b"shared")))

@@ -4,7 +4,10 @@
 
 `bench_line(number)` is what a run of it by four threads is to print.
 """
+from __future__ import annotations
+
 import sys
+from typing import Any, Iterator
 
 from smemu_tools import parser
 
@@ -15,7 +18,7 @@ ATOMIC = "ldadd x10, x11, [x9]"
 KINDS = ("smopa za0.s, p0/m, p0/m, z0.b, z1.b", "add z0.b, z0.b, z1.b", ATOMIC, "add x12, x12, #{}")
 
 
-def lines(number):
+def lines(number: Any) -> Iterator[Any]:
     """The lines of the source."""
     yield from FIRST
     current = number
@@ -25,18 +28,18 @@ def lines(number):
     yield from LAST
 
 
-def text(number):
+def text(number: Any) -> Any:
     """The text of the source."""
     return "".join(f"{line}\n" for line in lines(number))
 
 
-def bench_line(number, threads=4):
+def bench_line(number: Any, threads: Any = 4) -> Any:
     """The line of a run: each instruction is counted once in each thread, and each atomic one adds 1 to word 0."""
     all_lines = list(lines(number))
     return f"bench {number} threads {threads} instructions {threads * (len(all_lines) - 3)} word0 {threads * all_lines.count(ATOMIC)}"
 
 
-def main():
+def main() -> Any:
     words = parser(__doc__)
     words.add_argument("number", type=int, metavar="N")
     sys.stdout.write(text(words.parse_args().number))

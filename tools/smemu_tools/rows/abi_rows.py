@@ -4,6 +4,9 @@ The lines are those of changed.py. The programs of lazy.py whose callees keep, s
 turn, returns at another depth and SP, calls within one another, in handlers, handlers within handlers and by BLR, tails at the end of a page or changed after
 the call, and threads of which one has a fault.
 """
+from __future__ import annotations
+
+from typing import Any, Iterator
 from smemu_tools.model.elf import Segment, build, text_of
 from smemu_tools.model.expected import report
 from smemu_tools.model.world import run
@@ -23,11 +26,11 @@ SP_FROM_X26, X26_FROM_SP = 0x9100035F, 0x910003FA
 OPTIONS = {"svl": 128}
 
 
-def block(slices=16, buffer=BUFFER, reserved=bytes(6)):
+def block(slices: int = 16, buffer: int = BUFFER, reserved: Any = bytes(6)) -> bytes:
     return buffer.to_bytes(8, "little") + slices.to_bytes(2, "little") + reserved
 
 
-def at(rd, address):
+def at(rd: int, address: int) -> list[int]:
     """A multiple of 4,096 below 2^32, or one with 12 bits more."""
     return [movz(rd, address >> 16, 1), *[add(rd, rd, address >> 12 & 15, True)] * bool(address >> 12 & 15), *[add(rd, rd, address & 4095)] * bool(address & 4095)]
 
@@ -35,23 +38,23 @@ def at(rd, address):
 SETS = [*at(19, BLOCK), SMSTART_ZA, *at(2, PATTERN), movz(12, 3), LOAD, SET_BLOCK]
 
 
-def program(*parts, data=block(), flags=5, text_memory=None, more=(), place=TEXT):
+def program(*parts: Any, data: Any = block(), flags: Any = 5, text_memory: Any = None, more: Any = (), place: Any = TEXT) -> Any:
     text = text_of(laid_out(*parts, *ROUTINES))
     return build([Segment(place, text, flags=flags, memory=text_memory), Segment(BLOCK, data, flags=6, memory=8192), Segment(PATTERN, bytes(range(1, 65)), flags=4), *more], entry=place)[0]
 
 
-def calling(*body, before=(), data=block(), **parts):
+def calling(*body: Any, before: Any = (), data: Any = block(), **parts: Any) -> Any:
     """A program that makes one marked call."""
     return program(*SETS, *before, calls("callee"), *TAIL, *EXIT, "callee", *body, data=data, **parts)
 
 
-def shortest(*body):
+def shortest(*body: Any) -> Any:
     """A call with its tail, and nothing else but the exit; the block and its buffer stand in the page behind the text."""
     text = text_of(laid_out(0x10000013 | 0x1000 >> 2 << 5, SMSTART_ZA, SET_BLOCK, calls("callee"), *TAIL, *EXIT[1:], "callee", *body, *ROUTINES))
     return build([Segment(TEXT, text), Segment(TEXT + 0x1000, block(32, TEXT + 0x1010) + bytes(1024), flags=6)])[0]
 
 
-def yes_and_no():
+def yes_and_no() -> Iterator[Any]:
     """Callees and callers of each kind."""
     yield "shortest-that-saves", shortest(to("disable"))
     yield "shortest-that-loses", shortest(SMSTOP_ZA, RET)
@@ -73,7 +76,7 @@ def yes_and_no():
     yield "by-br", program(*SETS, (0x10000009, "callee"), (0x1000001E, "behind"), BR_X9, "behind", *TAIL, *EXIT, "callee", SMSTOP_ZA, RET)
 
 
-def undormant():
+def undormant() -> Iterator[Any]:
     """Calls whose ZA is not dormant: a state, a block or a buffer that is none."""
     yield "za-off", calling(RET, before=[SMSTOP_ZA])
     yield "no-pointer", calling(RET, before=[CLEAR_BLOCK])
@@ -97,17 +100,17 @@ def undormant():
 DEEPER = ["callee", PUSH, subs(20, 20, 1), to("last", EQ), calls("callee"), *TAIL, SET_BLOCK, "last", POP, RET]
 
 
-def deep(times):
+def deep(times: Any) -> Any:
     """Calls within one another, of which so many are open at once; all come back."""
     return program(*SETS, movz(20, times), calls("callee"), *TAIL, *EXIT, *DEEPER)
 
 
-def never_back(times, last=()):
+def never_back(times: Any, last: Any = ()) -> Any:
     """So many calls that never come back."""
     return program(*SETS, movz(20, times), "again", *last, calls("callee"), *TAIL, *EXIT, "callee", subs(20, 20, 1), to("again", NE), *EXIT)
 
 
-def depths():
+def depths() -> Iterator[Any]:
     for times in (1, 2, 255, 256, 257):
         yield f"{times}-open", deep(times)
         yield f"{times}-never-back", never_back(times)
@@ -120,7 +123,7 @@ def depths():
     yield "return-and-call-that-is-not-dormant", program(*SETS, calls("callee"), "tail", *TAIL, *EXIT, "callee", KEEPS_LINK, calls("disable"), *back[1:])
 
 
-def returns():
+def returns() -> Iterator[Any]:
     """A tail that is reached with another SP, and in a handler at another depth."""
     yield "return-with-another-sp", calling(SMSTOP_ZA, add(31, 31, 16) | 1 << 30, RET)
     yield "return-with-another-sp-and-then-its-own", program(*SETS, movz(21, 0), calls("callee"), "tail", *TAIL, add(31, 31, 16), to("tail"), "callee", add(31, 31, 16) | 1 << 30, RET)
@@ -128,6 +131,7 @@ def returns():
     at_tail = ["handler", SP_FROM_X22, to("tail")]
     yield "return-at-another-depth", program(*begins, calls("callee"), "tail", *TAIL, *EXIT, "callee", *posts(5), "wait", to("wait"), *at_tail)
     handler = [KEEPS_LINK, *SETS, calls("inner"), *TAIL, LINK, *RETURNS]
+    inner: list[Any]
     for name, inner in {"lawful": [KEEPS_LINK | 1 << 1, calls("disable"), LINK | 2 << 16, RET], "losing": [SMSTOP_ZA, RET]}.items():
         yield f"call-in-a-handler-that-is-{name}", program(*sets(s5="handler"), *posts(5), *[NOP] * 80, *EXIT, "handler", *handler, "inner", *inner)
     for name, last in {"lawful": [RET], "losing": [SMSTOP_ZA, RET]}.items():
@@ -135,7 +139,7 @@ def returns():
     yield "callee-over-a-handler", program(*begins, calls("callee"), *TAIL, *EXIT, "callee", *posts(5), *[NOP] * 60, RET, "handler", SMSTART_ZA, CLEAR_BLOCK, SMSTOP_ZA, *RETURNS)
 
 
-def within_others(last):
+def within_others(last: Any) -> Any:
     """A call in a handler within a handler. While it is open a third handler makes a call of its own at the same place and with the same SP, by another
     block, which returns; then the third handler returns, and the first call's callee ends by the last words."""
     return program(
@@ -147,12 +151,12 @@ def within_others(last):
         data=block() + bytes(240) + block(buffer=BUFFER + 512))
 
 
-def several_at_once(*between, last=(RET,), data=block()):
+def several_at_once(*between: Any, last: Any = (RET,), data: Any = block()) -> Any:
     """Two calls at one place and with one SP, which come back in one state; the words between them are the callee's."""
     return program(*SETS, movz(20, 2), "again", calls("callee"), *TAIL, *EXIT, "callee", subs(20, 20, 1), to("last", EQ), *between, to("again"), "last", *last, data=data)
 
 
-def returns_at_once():
+def returns_at_once() -> Iterator[Any]:
     """Calls that come back in one state: all lawful, none, the first alone, or the second alone."""
     other, two = [*at(19, BLOCK + 256), SET_BLOCK], block() + bytes(240) + block(buffer=BUFFER + 512)
     yield "two-return-at-once", several_at_once()
@@ -161,7 +165,7 @@ def returns_at_once():
     yield "first-of-two-at-once-is-lawful", several_at_once(*other, last=[*at(19, BLOCK), SET_BLOCK, RET], data=two)
 
 
-def small_changes():
+def small_changes() -> Iterator[Any]:
     """Callees that change one vector of ZA and leave it on; polls before each instruction; runs whose last state is the return, or that after the call."""
     for vector in (0, 1, 14, 15):
         yield f"vector-{vector}-changes", calling(movz(12, vector), LOAD, RET)
@@ -172,13 +176,13 @@ def small_changes():
     yield "ends-after-a-call-that-is-not-dormant", calling(RET, before=[SMSTOP_ZA])
 
 
-def moved(to_end, flags):
+def moved(to_end: Any, flags: Any) -> Any:
     """A program whose tail ends so many bytes before the end of a page; the rest of its text goes on there."""
     start = 0x401000 - to_end - 4 * (len(SETS) + 1 + len(TAIL))
     return program(*SETS, calls("callee"), *TAIL, *EXIT, "callee", RET, place=start, flags=flags)
 
 
-def tail_in_data(*body):
+def tail_in_data(*body: Any) -> Any:
     """A program whose tail, with all behind it, stands in a page that can be read and not executed."""
     front = [to("go"), "callee", *body, "go", *SETS, calls("callee")]
     words = text_of(laid_out(*front, *TAIL, *EXIT, *ROUTINES))
@@ -192,7 +196,7 @@ def tail_in_data(*body):
 LOADS, STORES, STORES_OTHER = 0xB9400149, 0xB9000149, 0xB900014B
 
 
-def words():
+def words() -> Iterator[Any]:
     """Tails at the end of a page, and words that change after the call."""
     for to_end in (0, 4, 8, 12, 16, 20, 24, 28):
         yield f"tail-{to_end}-before-a-page-end", moved(to_end, 7)
@@ -209,24 +213,24 @@ def words():
     yield "text-that-cannot-be-read", calling(RET, flags=1)
 
 
-def programs():
+def programs() -> Iterator[Any]:
     for kind in (yes_and_no, undormant, depths, returns, returns_at_once, small_changes, words):
         yield from kind()
 
 
-def losing(number):
+def losing(number: Any) -> Any:
     """A program whose callee loses ZA in the thread of that number, and in no other one."""
     return program(copy(28, 0), *SETS, calls("callee"), *TAIL, *EXIT, "callee", subs(31, 28, number), to("keeps", NE), SMSTOP_ZA, "keeps", RET)
 
 
-def of_threads():
+def of_threads() -> Iterator[Any]:
     """Programs that several threads run."""
     for number in range(2):
         yield f"thread-{number}-of-2-loses", losing(number), 2
     yield "thread-2-of-4-loses", losing(2), 4
 
 
-def own_options(name):
+def own_options(name: Any) -> Any:
     """The slice of a program with a handler: the signal comes while the callee, or the handler's, is under way. The shortest ones run at the usual length."""
     ends = {"loses-in-its-last-state": 6, "ends-before-it-loses": 5, "ends-after-a-call-that-is-not-dormant": len(SETS) + 2}
     if name in ends:
@@ -236,7 +240,7 @@ def own_options(name):
     return {"slice": 60} if "handler" in name or "depth" in name else {"svl": 256} if "shortest" in name else {}
 
 
-def abi_rows(contents, lazy_names):
+def abi_rows(contents: Any, lazy_names: Any) -> Any:
     """The programs and their reports by names, and the list; of the programs of lazy.py the files are there."""
     files, reports, lines = {}, {}, []
     for name, file in programs():

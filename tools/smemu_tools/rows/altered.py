@@ -3,8 +3,11 @@
 The lines are those of changed.py; for status 0 the text is `block`: the block of the thread in the report as it is then. What is at fault in a report, and how a thread runs
 over its journal, is said by tools/smemu_tools/model/report_faults.py and expected_replay.py, which share nothing with the emulator.
 """
+from __future__ import annotations
+
 import hashlib
 import re
+from typing import Any, Iterator
 
 from smemu_tools.model.expected import Thread, block
 from smemu_tools.model.expected_replay import replay
@@ -42,7 +45,7 @@ OWN_PARTS = {
 }
 
 
-def answer(file, report, number):
+def answer(file: bytes, report: bytes, number: int) -> tuple[int, str]:
     """The status and the text: the format of the whole report is looked at before its program and its thread."""
     fault = found(report)
     if fault == "read":
@@ -51,12 +54,12 @@ def answer(file, report, number):
     return BAD_REPORT, f"bad report: line {line}: {part}\n"
 
 
-def block_in(report, number):
+def block_in(report: Any, number: Any) -> Any:
     """The text of the block of a thread."""
     return re.search(f"^thread {number}\n.*?^end-thread\n", report.decode(), re.DOTALL | re.MULTILINE).group()
 
 
-def last_bytes(report):
+def last_bytes(report: Any) -> Iterator[Any]:
     """The last digit of each field, and the first one of each value, changed to others; most stay in the format."""
     for field in re.finditer(rb"(?<=[ =])[0-9a-f]+(?=[ \n])", report):
         start, end = field.span()
@@ -65,7 +68,7 @@ def last_bytes(report):
             yield start, start + 1, b"8"
 
 
-def part_changes(report, version):
+def part_changes(report: Any, version: Any) -> Iterator[Any]:
     """Of each part in the tables its first place changed to others."""
     for old, others in {**PARTS, **OWN_PARTS[version]}.items():
         start = report.index(old)
@@ -73,22 +76,22 @@ def part_changes(report, version):
             yield start, start + len(old), new
 
 
-def moves(report):
+def moves(report: Any) -> Iterator[Any]:
     """Each line removed, doubled and swapped with the next."""
     spans = spans_of(report)
     for k in range(len(spans)):
         yield from line_moves(report, spans, k)
 
 
-def with_a_count_more(report):
+def with_a_count_more(report: Any) -> Iterator[Any]:
     """One more instruction counted."""
     count = re.search(rb"(?<=^count )[0-9]+$", report, re.MULTILINE)
     yield *count.span(), str(int(count.group()) + 1).encode()
 
 
-def of_each_stop(reports):
+def of_each_stop(reports: Any) -> Any:
     """For each stop, whatever its addresses and its word, the report with the fewest instructions."""
-    def count(name):
+    def count(name: Any) -> Any:
         return int(re.search(rb"^count ([0-9]+)$", reports[name], re.MULTILINE).group(1))
 
     names = {}
@@ -98,7 +101,7 @@ def of_each_stop(reports):
     return names.values()
 
 
-def two_threads(file, version):
+def two_threads(file: Any, version: Any) -> Any:
     """A report of two threads of a program; the second is as it runs alone."""
     thread, stop = Thread(file, 10_000_000, 128, 256, 1000, 1, 2, version), None
     while stop is None:
@@ -106,7 +109,7 @@ def two_threads(file, version):
     return of_two_threads(hashlib.sha256(file).hexdigest(), block(thread, stop, 1), version)
 
 
-def groups(written, others):
+def groups(written: Any, others: Any) -> Iterator[Any]:
     """The file of a program, that of a report and the report, the thread, and the changes."""
     of_run = lambda name: (f"{name}.elf.txt", written[name])
     for program, (name, report), version in (("nested-signals", of_run("nested-signals"), 2), ("signal-in-streaming-mode-128", of_run("signal-in-streaming-mode-128"), None),
@@ -122,7 +125,7 @@ def groups(written, others):
         yield "answer", name, others[name], 1, changes_of_two_threads(others[name], version)
 
 
-def case(file, report, number, start, end, new):
+def case(file: Any, report: Any, number: Any, start: Any, end: Any, new: Any) -> Any:
     """The line of a case."""
     changed = report[:start] + new + report[end:]
     status, text = answer(file, changed, number)
@@ -135,7 +138,7 @@ def case(file, report, number, start, end, new):
     return f"{start} {end} {new.hex() or '-'} {status}\t{text}\n"
 
 
-def altered_list(programs, written, others):
+def altered_list(programs: Any, written: Any, others: Any) -> Any:
     """The list; there are the programs and the reports that their runs write by their names, and other reports by those of their files."""
     lines = []
     for program, name, report, number, altered in groups(written, others):

@@ -6,10 +6,13 @@ and past a tab the text with `|` for each line feed, or `#`, its length, and the
 tools/smemu_tools/model/program_faults.py, in a source source_lines.py, in a plan world.py, in a script tools/smemu_tools/model/expected_debug.py, and of vectors tools/smemu_tools/model/expected_answers.py,
 which share nothing with the emulator.
 """
+from __future__ import annotations
+
 import hashlib
 import random
 import re
 import struct
+from typing import Any, Iterator
 
 from smemu_tools.model.expected import report
 from smemu_tools.model.expected_answers import answers, read_vectors
@@ -34,7 +37,7 @@ class Unknown(Exception):
 # ---- changes
 
 
-def of_bytes(content, places, others):
+def of_bytes(content: Any, places: Any, others: Any) -> Iterator[Any]:
     """At each of the places a byte that is changed to others."""
     for at in places:
         for byte in others(content[at]):
@@ -42,13 +45,13 @@ def of_bytes(content, places, others):
                 yield at, at + 1, bytes([byte])
 
 
-def cuts(content, places):
+def cuts(content: Any, places: Any) -> Iterator[Any]:
     """The file cut at each of the places."""
     for at in places:
         yield at, len(content), b""
 
 
-def of_text(content):
+def of_text(content: Any) -> Iterator[Any]:
     """Changes of a text of lines: its bytes, its words, its numbers and its lines."""
     yield from of_bytes(content, range(len(content)), lambda _: BYTES)
     yield from cuts(content, range(len(content)))
@@ -70,7 +73,7 @@ def of_text(content):
         yield start, end, line[:-1] + b"\r\n"
 
 
-def of_vectors(content):
+def of_vectors(content: Any) -> Iterator[Any]:
     """Changes of which most leave vectors: a digit of a value, a field or a line left out, a line doubled, and lines in another order."""
     for field in re.finditer(rb" ([a-z0-9]+)=([0-9a-f]+)", content):
         digits = {b"nzcv": b"01", b"svcr": b"0123"}.get(field[1], b"0123456789abcdef")
@@ -88,7 +91,7 @@ HEADER = "16s2H" "I" "3Q" "I" "6H"
 TABLES = {"program": "2I6Q", "section": "2I4Q2I2Q", "symbol": "I2BH2Q"}
 
 
-def fields(form, at):
+def fields(form: Any, at: int) -> Iterator[tuple[int, int]]:
     """The places and the sizes of the fields of a form."""
     for count, kind in re.findall("([0-9]*)([sHIQB])", form):
         for _ in range(1 if kind == "s" else int(count or 1)):
@@ -97,7 +100,7 @@ def fields(form, at):
             at += size
 
 
-def fields_of(file):
+def fields_of(file: bytes) -> Iterator[tuple[int, int]]:
     """All fields of the header, of both tables and of the symbols."""
     heads, sections = struct.unpack_from("<2Q", file, 32)
     count, _, section_count = struct.unpack_from("<3H", file, 56)
@@ -112,7 +115,7 @@ def fields_of(file):
             yield from fields(TABLES[name], at + k * struct.calcsize("<" + TABLES[name]))
 
 
-def of_numbers(file, at, size):
+def of_numbers(file: Any, at: Any, size: Any) -> Iterator[Any]:
     """A field at the ends of its range, and beside what it is and beside the file's size."""
     old = int.from_bytes(file[at:at + size], "little")
     top = 1 << 8 * size
@@ -122,7 +125,7 @@ def of_numbers(file, at, size):
             yield at, at + size, value.to_bytes(size, "little")
 
 
-def of_program(file):
+def of_program(file: Any) -> Iterator[Any]:
     """Changes of a program file: its fields, its bytes, its tables, and the file cut and doubled."""
     places = list(fields_of(file))
     for at, size in places:
@@ -140,7 +143,7 @@ def of_program(file):
     yield from of_bytes(file, others, lambda byte: (byte ^ 1, 255))
 
 
-def after(content, changes):
+def after(content: bytes, changes: list[tuple[int, int, bytes]]) -> bytes:
     """The file after the changes, one after the other."""
     for start, end, new in changes:
         content = content[:start] + new + content[end:]
@@ -150,9 +153,9 @@ def after(content, changes):
 # ---- answers
 
 
-def listing(file, texts):
+def listing(file: bytes, texts: dict[str, str]) -> tuple[int, str]:
     """What `dis` answers."""
-    def means(word):
+    def means(word: int) -> bool:
         text = texts.get(f"{word:08x}")
         if text is None:
             raise Unknown
@@ -165,7 +168,7 @@ def listing(file, texts):
     return 0, "".join(f"{at:016x} {word:08x} {texts[f'{word:08x}']}\n" for at, word in words)
 
 
-def ran(file, texts, options):
+def ran(file: bytes, texts: dict[str, str], options: dict[str, int]) -> tuple[int, str]:
     """What `run` answers; nothing of many pages, or of words that no table has."""
     status, text = listing(file, texts)
     if status:
@@ -180,7 +183,7 @@ def ran(file, texts, options):
     return 0, text
 
 
-def shortened(text):
+def shortened(text: Any) -> Any:
     """A text as it stands in the list."""
     content = text if isinstance(text, bytes) else text.encode()
     if len(content) <= SHORT and text and content.endswith(b"\n") and not set(content) & set(b"|\t\r"):
@@ -188,7 +191,7 @@ def shortened(text):
     return f"#{len(content)} {hashlib.sha256(content).hexdigest()[:16]}"
 
 
-def answered_vectors(file, texts):
+def answered_vectors(file: bytes, texts: dict[str, str]) -> tuple[int, str]:
     """What `vectors` answers; nothing of words that no table has."""
     vectors, fault = read_vectors(file, 128, 256)
     if fault is None and any(f"{word:08x}" not in texts for word, _ in vectors):
@@ -196,7 +199,7 @@ def answered_vectors(file, texts):
     return answers(file)
 
 
-def packed(content):
+def packed(content: Any) -> Any:
     """Bytes as they stand in a case: a long run of one byte is said by its length."""
     at, parts = 0, []
     for run in REPEATED.finditer(content):
@@ -205,14 +208,14 @@ def packed(content):
     return "+".join(part for part in [*parts, content[at:].hex()] if part) or "-"
 
 
-def case(content, changes, answer):
+def case(content: Any, changes: Any, answer: Any) -> Any:
     """The line of a case."""
     status, text = answer(after(content, changes))
     changed = "".join(f"{start} {end} {packed(new)} " for start, end, new in changes)
     return f"{changed}{status}\t{shortened(text)}\n"
 
 
-def group(base, words, content, changes, answer, most, seed=1):
+def group(base: Any, words: Any, content: Any, changes: Any, answer: Any, most: Any, seed: Any = 1) -> Any:
     """A group of at most so many cases, which are chosen evenly; each has one change or several."""
     changes = list(dict.fromkeys(changes))
     random.Random(seed).shuffle(changes)
@@ -242,7 +245,7 @@ SCRIPTS = {"debug-shows-all-in-the-middle.script": 500, "debug-goes-back-over-a-
 VECTORS = {"mixed-lines-128-256.vectors": {of_text: 800, of_vectors: 1200}}
 
 
-def programs(contents, texts):
+def programs(contents: Any, texts: Any) -> Iterator[Any]:
     yield group(SHORTEST, "run @", contents[SHORTEST], cuts(contents[SHORTEST], range(64)), lambda file: listing(file, texts), 64)
     for name, most in LISTED.items():
         yield group(f"{name}.elf", "dis @", contents[f"{name}.elf"], of_program(contents[f"{name}.elf"]), lambda file: listing(file, texts), most)
@@ -250,12 +253,12 @@ def programs(contents, texts):
         yield group(f"{name}.elf", "run @ --budget 50", contents[f"{name}.elf"], of_program(contents[f"{name}.elf"]), lambda file: ran(file, texts, {"budget": 50}), most)
 
 
-def options_in(words):
+def options_in(words: list[str]) -> dict[str, int]:
     """The options among the words of a command."""
-    return {name.removeprefix("--"): int(value) for name, value in zip(words, words[1:]) if name.startswith("--")}
+    return {name[2:]: int(value) for name, value in zip(words, words[1:]) if name.startswith("--")}
 
 
-def plans(rows, contents):
+def plans(rows: Any, contents: Any) -> Iterator[Any]:
     """The rows of plans are words by names; there is the content of each file by its name."""
     for name, most in PLANS.items():
         _, program, _, *options = words = rows[name].split()
@@ -263,11 +266,11 @@ def plans(rows, contents):
                     lambda plan: sim(contents[program], plan, **options_in(options)), most)
 
 
-def scripts(rows, contents, texts):
+def scripts(rows: Any, contents: Any, texts: Any) -> Iterator[Any]:
     for name, most in SCRIPTS.items():
         _, program, reported, number, _ = words = rows[name].split()
 
-        def answer(script):
+        def answer(script: Any) -> Any:
             try:
                 return debug(contents[program], contents[reported], int(number), script, texts)
             except KeyError:
@@ -276,13 +279,13 @@ def scripts(rows, contents, texts):
         yield group(name, " ".join(words), contents[name], of_text(contents[name]), answer, most)
 
 
-def vectors(contents, texts):
+def vectors(contents: Any, texts: Any) -> Iterator[Any]:
     for name, sorts in VECTORS.items():
         for changes, most in sorts.items():
             yield group(name, "vectors @ --cores 2", contents[name], changes(contents[name]), lambda file: answered_vectors(file, texts), most)
 
 
-def changed_list(rows, contents, texts, source):
+def changed_list(rows: Any, contents: Any, texts: Any, source: Any) -> Any:
     """The whole list; the group of a source is made beside it."""
     groups = [*programs(contents, texts), source, *plans(rows, contents), *scripts(rows, contents, texts), *vectors(contents, texts)]
     return "".join(text for text, _ in groups)

@@ -3,8 +3,11 @@
 The lines are those of changed.py. The checkpoint that is resumed is what `ckpt` writes, and a case of its own says what that is. All comes from
 tools/smemu_tools/model/expected_ckpt.py.
 """
-import functools
+from __future__ import annotations
+
 import itertools
+import functools
+from typing import Any, Iterator
 
 from smemu_tools.model.expected import report
 from smemu_tools.model.expected_ckpt import FILE_LIMIT, JOURNAL_LIMIT, OUTPUT_LIMIT, PAGE, PAGE_LIMIT, SHARED_PAGE, ckpt, number, read_for, resume
@@ -41,31 +44,31 @@ ANY_BYTE = 800
 class Session:
     """A program, a report and a thread of it, and a checkpoint at a count."""
 
-    def __init__(self, contents, program, reported, thread, count):
+    def __init__(self, contents: Any, program: Any, reported: Any, thread: Any, count: Any) -> None:
         self.program, self.reported, self.asked = f"{program}.elf", reported, f"{thread} {count}"
         self.file, self.report, self.thread = contents[self.program], contents[reported], thread
         self.status, self.content = ckpt(self.file, self.report, thread, count)
 
-    def writes(self):
+    def writes(self) -> Any:
         """What `ckpt` writes."""
         return f"{self.reported} ckpt {self.program} @ {self.asked}\n" + case(self.report, (), lambda _: (self.status, self.content))
 
-    def resumes(self, changes, most=None):
+    def resumes(self, changes: Any, most: Any = None) -> Any:
         """What `resume` answers to the checkpoint with each of those changes, or with so many of them."""
         base, words = f"ckpt {self.program} {self.reported} {self.asked} >", f"resume {self.program} {self.reported} @"
         return group(base, words, self.content, changes, lambda content: resume(self.file, self.report, content), most)[0]
 
-    def resumed_for(self, contents, program, reported, changes=()):
+    def resumed_for(self, contents: Any, program: Any, reported: Any, changes: Any = ()) -> Any:
         """What `resume` answers to it, with those changes, for another program or another report."""
         answer = lambda content: resume(contents[program], contents[reported], content)
         return f"ckpt {self.program} {self.reported} {self.asked} > resume {program} {reported} @\n" + case(self.content, changes, answer)
 
     @functools.cached_property
-    def read(self):
+    def read(self) -> Any:
         """The values of its fields, and where they stand."""
         return read_for(self.content, self.report)
 
-    def value(self, at, size):
+    def value(self, at: Any, size: Any) -> Any:
         return int.from_bytes(self.content[at:at + size], "little")
 
 
@@ -75,7 +78,7 @@ class Session:
 AS_IT_IS = ((0, 0, b""),)
 
 
-def of_head(session):
+def of_head(session: Any) -> Iterator[Any]:
     """The numbers up to the vectors, where they stand and how many bytes they have, and values at the borders of what they may be."""
     said, _, block = opened(session.file, session.report, session.thread)
     count, events = count_of(block), len(events_of(block))
@@ -94,7 +97,7 @@ def of_head(session):
     yield 400, 8, (1, 2, 1 << 8, 1 << 32)
 
 
-def of_tail(session):
+def of_tail(session: Any) -> Iterator[Any]:
     """Those past the vectors: of the handlers, of the output, and of the first and the last pages."""
     places, parts = session.read[1].places, session.read[1].parts
     handlers, output, pages = (parts[name] for name in ("handlers", "output", "pages"))
@@ -111,25 +114,26 @@ def of_tail(session):
         yield *places[k + 1], range(9)
 
 
-def of_numbers(session, numbers):
+def of_numbers(session: Any, numbers: Any) -> Iterator[Any]:
     """Each number at these values, at the ends of its range and beside what it is."""
     for at, size, borders in numbers:
         old, end = session.value(at, size), 1 << 8 * size
         yield from (((at, at + size, number(value, size)),) for value in (0, end // 2, end - 1, old - 1, old + 1, *borders) if value != old and 0 <= value < end)
 
 
-def chosen(session):
+def chosen(session: Any) -> Iterator[Any]:
     """Where the fields stand, and how many bytes they have: all but most of the vectors and of the pages."""
     places, parts = session.read[1].places, session.read[1].parts
     vectors, handlers = parts["vectors"], parts["handlers"]
     yield from places[:vectors]
-    for start, end in itertools.pairwise((vectors, vectors + 32, vectors + 48, vectors + 49, handlers)):
+    bounds = (vectors, vectors + 32, vectors + 48, vectors + 49, handlers)
+    for start, end in zip(bounds, bounds[1:]):
         yield from dict.fromkeys([*places[start:end][:2], *places[start:end][-1:]])
     yield from places[handlers:parts["pages"] + 4]
     yield from places[-6:]
 
 
-def of_fields(session):
+def of_fields(session: Any) -> Iterator[Any]:
     """Each field with another first and another last byte, left out and twice, and the file cut at it and within it."""
     content = session.content
     for at, size in (place for place in chosen(session) if place[1]):
@@ -140,7 +144,7 @@ def of_fields(session):
         yield from ((change,) for change in cuts(content, [at, at + size - 1]))
 
 
-def of_ends(session):
+def of_ends(session: Any) -> Iterator[Any]:
     """More bytes than there are to be, and files of which the first of two bad fields is told."""
     content = session.content
     end = len(content)
@@ -151,7 +155,7 @@ def of_ends(session):
     yield (48, 49, b"\xff"), (44, 45, b"\xff")
 
 
-def with_pages(session, *pages, last=False):
+def with_pages(session: Any, *pages: Any, last: Any = False) -> Any:
     """The changes that put pages before or behind those that there are, and say their number."""
     at, size = session.read[1].places[session.read[1].parts["pages"]]
     place = len(session.content) if last else at + size
@@ -159,7 +163,7 @@ def with_pages(session, *pages, last=False):
     return (place, place, records), (at, at + size, number(session.value(at, size) + len(pages), size))
 
 
-def of_pages(session):
+def of_pages(session: Any) -> Iterator[Any]:
     """Pages at the ends of the address space and beside the shared region, pages out of order, and too few or too many for their number."""
     yield with_pages(session, (0, 7))
     yield with_pages(session, (0, 7), (PAGE, 0))
@@ -172,7 +176,7 @@ def of_pages(session):
     yield with_pages(session, (TOP, 7), (TOP, 7), last=True)
 
 
-def of_room(session):
+def of_room(session: Any) -> Iterator[Any]:
     """As many handlers and as much output as there may be, and one more."""
     handlers, output = (session.read[1].places[session.read[1].parts[name]] for name in ("handlers", "output"))
     for count in 62, 63:
@@ -182,7 +186,7 @@ def of_room(session):
         yield (sum(output), sum(output), b"z" * count), (output[0], sum(output), number(count, 4))
 
 
-def of_any_byte(session):
+def of_any_byte(session: Any) -> Iterator[Any]:
     """Any byte of any field but most pages changed, and the file cut there."""
     places = sorted({at + k for at, size in session.read[1].places[:session.read[1].parts["pages"] + 3] for k in range(size)} | {at for at, _ in session.read[1].places})
     yield from ((change,) for change in of_bytes(session.content, places, lambda byte: (byte ^ 1, byte ^ 0x80, 0, 255)))
@@ -192,7 +196,7 @@ def of_any_byte(session):
 # ---- rows of their own
 
 
-def checkpoint_rows(contents):
+def checkpoint_rows(contents: Any) -> Iterator[Any]:
     """The first example of both commands, and ends of each kind: name, status, file, text and words."""
     file, report = contents["answer.elf"], contents["answer.elf.txt"]
     _, checkpoint = ckpt(file, report, 0, 1)
@@ -212,7 +216,7 @@ def checkpoint_rows(contents):
 # ---- the list
 
 
-def as_they_are(contents):
+def as_they_are(contents: Any) -> Iterator[Any]:
     """Checkpoints of each thread, and the rest of the run from each."""
     depths = set()
     for (program, reported, thread), counts in COUNTS.items():
@@ -224,11 +228,11 @@ def as_they_are(contents):
     assert DEPTHS <= depths
 
 
-def streaming_name(version, svl):
+def streaming_name(version: Any, svl: Any) -> Any:
     return f"checkpoint-streaming-{version}-{svl}.report"
 
 
-def streaming(contents):
+def streaming(contents: Any) -> Iterator[Any]:
     """In streaming mode with ZA on, at each length and in each version."""
     for version, svl in itertools.product(VERSIONS, LENGTHS):
         session = Session(contents, STREAMING, streaming_name(version, svl), 0, STREAMING_COUNT)
@@ -238,7 +242,7 @@ def streaming(contents):
         yield session.writes() + session.resumes([AS_IT_IS, *((change,) for change in first), ((360, 361, b"\1"),), ((360, 361, b"\2"),)])
 
 
-def refused(contents):
+def refused(contents: Any) -> Iterator[Any]:
     """Where there is no checkpoint: counts past the block's, other threads and programs, and reports from which the run parts."""
     for program, reported, thread, counts in (
             ("answer", "answer.elf.txt", 0, (3, 4, 4294967295)), ("answer", "answer.elf.txt", 1, (0,)), ("shared-cas", "answer.elf.txt", 0, (0,)),
@@ -250,7 +254,7 @@ def refused(contents):
             yield Session(contents, program, reported, thread, count).writes()
 
 
-def other_files(contents):
+def other_files(contents: Any) -> Iterator[Any]:
     """Checkpoints that are resumed for another program and for other reports than theirs, and one that is at fault besides."""
     answer, cas = Session(contents, *ANSWER), Session(contents, *CAS)
     for program, reported in ("shared-cas.elf", "shared-cas.elf.txt"), ("answer.elf", "shared-cas.elf.txt"), ("shared-cas.elf", "answer.elf.txt"):
@@ -266,7 +270,7 @@ def other_files(contents):
             yield Session(contents, program, f"{program}.elf.txt", 0, 2).resumed_for(contents, f"{program}.elf", f"{other}.elf.txt")
 
 
-def past_the_budget(contents):
+def past_the_budget(contents: Any) -> Iterator[Any]:
     """Of a report whose count is past its own budget: `ckpt` writes the state at the budget, which no checkpoint is of."""
     for count in 119, 120, 121:
         session = Session(contents, "signals-one-after-the-other", "replay-version-2-signals-one-after-the-other-with-a-count-more.report", 0, count)
@@ -290,7 +294,7 @@ WRITTEN_OUT = (
     ("resume answer.elf @", 2, "usage: word 3: missing"), ("resume answer.elf @ 0 @", 2, "usage: word 4: extra"), ("resume", 2, "usage: word 1: missing"))
 
 
-def longest(contents):
+def longest(contents: Any) -> Iterator[Any]:
     """A file with as many bytes as there may be, of which the first past the last page is told, and one with one byte more, of which nothing is looked at."""
     session = Session(contents, *ANSWER)
     end = len(session.content)
@@ -300,17 +304,17 @@ def longest(contents):
         yield session.resumes([]) + f"{end} {end} {bytes(PAGE).hex()}*{pages}+00*{rest + more} 12\tbad checkpoint: {line}|\n"
 
 
-def front_name(events):
+def front_name(events: Any) -> Any:
     return f"checkpoint-of-{events}-events.ckpt"
 
 
-def fronts(contents):
+def fronts(contents: Any) -> Any:
     """What stands in a checkpoint up to the events that it has used, where these are as many as there may be, and one more."""
     content = Session(contents, *CAS).content
     return {front_name(events): content[:72] + number(events, 4) for events in (JOURNAL_LIMIT, JOURNAL_LIMIT + 1)}
 
 
-def most_events(contents):
+def most_events(contents: Any) -> Iterator[Any]:
     """These, of a report with one event more than a checkpoint may have used: the field that lacks is told, or the number."""
     program, reported, _, _ = CAS
     content, event = contents[reported], f"e poll 0 {0:016x} {0:016x} {0:016x}\n".encode()
@@ -324,7 +328,7 @@ def most_events(contents):
         yield f"{end} {end} {event.hex()}*{more} {said[0]} {said[1]} {count.hex()} 12\tbad checkpoint: field {field}|\n"
 
 
-def changed(contents):
+def changed(contents: Any) -> Iterator[Any]:
     """Checkpoints with changes of each field and of any byte."""
     for asked in ANSWER, NESTED, FIRST:
         session = Session(contents, *asked)
@@ -336,12 +340,12 @@ def changed(contents):
     yield session.resumes(of_any_byte(session), ANY_BYTE)
 
 
-def checkpoints(contents):
+def checkpoints(contents: Any) -> Any:
     """The files that are made for the list, by name, and the list; there is the content of each other file by its name."""
     file = contents[f"{STREAMING}.elf"]
     files = {streaming_name(version, svl): report(file, svl=svl, kernel=version, **STREAMING_OPTIONS).encode() for version, svl in itertools.product(VERSIONS, LENGTHS)}
-    files |= fronts(contents)
-    contents = contents | files
+    files.update(fronts(contents))
+    contents = {**contents, **files}
     kinds = (as_they_are, streaming, refused, other_files, past_the_budget, changed, longest, most_events)
     written_out = "".join(f"answer.elf.txt {words}\n{status}\t{text}|\n" for words, status, text in WRITTEN_OUT)
     return files, written_out + "".join(itertools.chain(*(kind(contents) for kind in kinds)))

@@ -1,9 +1,13 @@
 """Rows of `debug`: scripts over reports of one thread and of several. What is to be written comes from tools/smemu_tools/model/expected_debug.py; what is
 wrong with a file is written out here.
 """
+from __future__ import annotations
+
+from typing import Any, Iterator
 from smemu_tools.model.elf import Segment, build, elf, text_of
 from smemu_tools.model.expected import report
 from smemu_tools.model.expected_debug import debug, listed
+from smemu_tools.rows import without
 from smemu_tools.rows.instructions import EXIT, SVC, add, address, call, laid_out, movz, subs, to
 from smemu_tools.rows.nested import ADDS, EACH_SIGNAL, RETURNS, deep, masks, posts, sets, signals, spins
 from smemu_tools.rows.world_programs import (AT_TEXT, DUP_REGISTER, LDADD, NESTS, PTRUE_P0_B, SETFFR, SMOPA_ZA0_Z0_Z1, at, index, number, shared_words)
@@ -59,7 +63,7 @@ ANSWER, STREAMING = "replay-answer-as-it-is", "replay-signal-in-streaming-mode-2
 SHOWN = "where; regs; za; slice b 0 h 0; mem 0x7dfffffffff0 16"
 
 
-def sessions():
+def sessions() -> Iterator[Any]:
     """The name of each row, the report, the thread and the script, with `; ` between its lines."""
     yield "example-goes-past-the-end", ANSWER, 0, "goto 2; where; goto 9"
     yield "example-goes-back-to-0", ANSWER, 0, "goto 2; back 5; where"
@@ -172,14 +176,14 @@ def sessions():
     yield "of-no-thread", "replay-answer-of-thread-1", 1, "where"
     yield "of-no-thread-of-one-that-parts", "replay-answer-with-count-2", 31, "where"
     # the script is judged before the report is compared with the program, and the format of the report before the script
-    for name, report, thread in (("of-another-program", "replay-answer-of-another-program", 0), ("of-no-thread", ANSWER, 1),
+    for name, of, thread in (("of-another-program", "replay-answer-of-another-program", 0), ("of-no-thread", ANSWER, 1),
                                  ("that-parts", "replay-answer-with-count-2", 0), ("that-is-cut", "replay-answer-end-missing", 0),
                                  ("that-is-empty", "replay-answer-empty", 0), ("with-a-history", "replay-answer-with-a-history", 0)):
-        yield f"at-fault-of-a-report-{name}", report, thread, "where; wheer"
+        yield f"at-fault-of-a-report-{name}", of, thread, "where; wheer"
     yield "many-lines", "debug-signals", 0, "; ".join(many_lines(10_000))
 
 
-def nested_sessions():
+def nested_sessions() -> Iterator[Any]:
     """Sessions over reports of version 2, with handlers within handlers; what is shown at a count is after the fewest turns."""
     inner = "where; regs; za; slice s 1 h 0; mem 0x7dfffffff390 16"
     yield "nested-goes-back-over-each-delivery", "debug-nested", 0, f"goto 49; {inner}; back 1; {inner}; back 11; where; regs; za; back 12; where; regs; za; goto 24; where; za"
@@ -210,7 +214,7 @@ def nested_sessions():
         f"goto 131072; {all_of_it}; back 65536; {all_of_it}; goto 196608; {all_of_it}; back 66000; regs; step 1000; regs; za")
 
 
-def many_lines(count):
+def many_lines(count: Any) -> Iterator[Any]:
     """Lines of all commands, mostly moves, by a generator of numbers; the session stands at counts from 0 to 90."""
     seed, shows = 5, ("regs", "za", "where", "slice s 0 v 2", "mem 0x7dfffffffb80 8")
     for _ in range(count):
@@ -273,14 +277,14 @@ FAULTS = {
 }
 
 
-def script(lines):
+def script(lines: Any) -> Any:
     """The file of lines with `; ` between them; bytes are a file already."""
     if isinstance(lines, bytes) or not lines:
         return lines or b""
     return "".join(line + "\n" for line in lines.split("; ")).encode(errors="surrogateescape")
 
 
-def refusals():
+def refusals() -> Iterator[Any]:
     """The name of each row, the status, the script, what is to be written, and the words: files that are not there or not accepted."""
     for name, (lines, line, kind) in FAULTS.items():
         yield f"at-fault-{name}.script", 11, script(lines), f"bad plan: line {line}: {kind}\n", f"answer.elf {ANSWER}.report 0 @"
@@ -299,14 +303,14 @@ def refusals():
     yield "of-a-last-line-without-its-end.script", 11, b"where\nstep", "bad plan: line 2: missing\n", f"answer.elf {ANSWER}.report 0 @"
 
 
-def debug_rows(rows):
+def debug_rows(rows: Any) -> Any:
     """Rows as make_rows.py has them, from those that it has: the reports, which have no command, and the scripts."""
     known = {row[0]: (row, list(row[4])) for row in rows if not isinstance(row[4], str)}
     files = {name: row[2] for name, (row, _) in known.items()}
     made, programs, reports = [], {}, {}
     for name, (row, words) in known.items():
         if words[0] == "replay":
-            programs[name.removesuffix(".report")], reports[name.removesuffix(".report")] = words[1], row[2]
+            programs[without(name, ".report")], reports[without(name, ".report")] = words[1], row[2]
     for version, runs, of_rows in ((1, RUNS, WRITTEN), (2, NEW_RUNS, NEW_WRITTEN)):
         for name, (file, options) in runs.items():
             made.append((f"{name}.elf", None, file, "", ""))

@@ -4,6 +4,9 @@ Which byte it is, and what is added to it, the handler reads from two shared wor
 operations in a report, and `replay` tells where the run of the thread is another one then, or with which line its block begins to be another. The lines are
 those of changed.py; what is to be written comes from tools/smemu_tools/model/expected_replay.py.
 """
+from __future__ import annotations
+
+from typing import Any, Iterator
 from smemu_tools.model.elf import elf
 from smemu_tools.model.expected import report
 from smemu_tools.model.expected_replay import replay
@@ -22,11 +25,11 @@ LENGTH, ARRAY = 16, 16
 PROGRAMS = {"frames": ([], False), "frames-with-za": ([SMSTART, PTRUE_P0_B, index(0, 1, 1), dup(1, 3), SMOPA_ZA0_Z0_Z1], True)}
 
 
-def program(modes):
+def program(modes: Any) -> Any:
     return elf(laid_out(*sets(s5="handler"), *modes, *posts(5), *FOR_EVER, *HANDLER))
 
 
-def places(version, with_za):
+def places(version: Any, with_za: Any) -> Iterator[Any]:
     """The places of bytes: all of the head, and of each part past it the first and the last byte."""
     head = HEADS[version]
     parts = [32 * LENGTH, 16 * LENGTH // 8, LENGTH // 8, 32 - LENGTH // 8, *[ARRAY * ARRAY] * with_za, 4096]
@@ -37,13 +40,13 @@ def places(version, with_za):
         head += size
 
 
-def answer_end(text, place):
+def answer_end(text: Any, place: Any) -> Any:
     """Where the line of the operation on a shared word ends, with its answer."""
     line = f"e ld {place} {0:016x} {0:016x} {0:016x}"
     return text.index(line) + len(line)
 
 
-def cases(file, text, with_za):
+def cases(file: Any, text: Any, with_za: Any) -> Iterator[Any]:
     """The changes of the two answers and what `replay` is to tell of each."""
     version = int(text[len("smemu-report ")])
     first, second = answer_end(text, 0), answer_end(text, 1)
@@ -53,7 +56,7 @@ def cases(file, text, with_za):
             yield case(text.encode(), changes, lambda changed: replay(file, changed.decode()))
 
 
-def frames():
+def frames() -> Any:
     """The programs and their reports of both versions by names, and the list."""
     files, reports, lines = {}, {}, []
     for name, (modes, with_za) in PROGRAMS.items():

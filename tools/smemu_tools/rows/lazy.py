@@ -1,6 +1,9 @@
 """Programs with the support routines of AAPCS64 that save ZA lazily, and the tail of a call: how many instructions each takes, what it stores and loads, and
 signals and moves to another core between any two of them. Their words are written out here, as they are in crates/sm_types/specs/Routines.antt."""
+from __future__ import annotations
+
 import struct
+from typing import Any, Iterator
 
 from smemu_tools.model.elf import Segment, build, text_of
 from smemu_tools.model.expected import Thread, report
@@ -26,16 +29,16 @@ BLOCK, PATTERN, STORED, BUFFER = DATA, DATA + 0x1000, 0x500000, 0x520000
 LENGTHS = (128, 256, 512, 1024, 2048)
 
 
-def block(slices, buffer=BUFFER, reserved=bytes(6)):
+def block(slices: Any, buffer: Any = BUFFER, reserved: Any = bytes(6)) -> Any:
     return buffer.to_bytes(8, "little") + slices.to_bytes(2, "little") + reserved
 
 
-def over_za(word, step, name):
+def over_za(word: int, step: int, name: str) -> list[int | str | tuple[int, str]]:
     """A loop over the vectors of ZA at X2, which moves on by a step after each."""
     return [movz(12, 0), READ_LENGTH, name, word, step, add(12, 12, 1), COMPARE, to(name, NE)]
 
 
-def place(rd, value):
+def place(rd: int, value: int) -> list[int]:
     """A multiple of 65,536, and 4,096 added where it is said."""
     return [movz(rd, value >> 16, 1), *[add(rd, rd, value >> 12 & 15, True)] * bool(value >> 12 & 15)]
 
@@ -45,7 +48,7 @@ FILLS = [SMSTART_ZA, *place(2, PATTERN), *over_za(LOAD, add(2, 2, 1), "fill"), *
 STORES = [*place(2, STORED), *over_za(STORE, ON_BY_LENGTH, "store"), SMSTOP_ZA]
 
 
-def program(parts, data, buffer=BUFFER, more=()):
+def program(parts: Any, data: Any, buffer: Any = BUFFER, more: Any = ()) -> Any:
     """The program: the block and other data, the pattern, and 65,536 bytes for ZA and for its buffer each."""
     pattern = bytes((3 * k * k + 7 * k) % 251 + 1 for k in range(512))
     return build([Segment(TEXT, text_of(laid_out(*parts, *EXIT, *ROUTINES))), Segment(DATA, data, flags=6, memory=4096), Segment(PATTERN, pattern, flags=4),
@@ -53,17 +56,17 @@ def program(parts, data, buffer=BUFFER, more=()):
 
 
 # what is called, and how many instructions that is: with slices in a buffer, with none, and with a null buffer
-KINDS = {"save": ([calls("save")], (12, 11, 9)), "disable": ([calls("disable")], (14, 13, 11)),
+KINDS: dict[str, Any] = {"save": ([calls("save")], (12, 11, 9)), "disable": ([calls("disable")], (14, 13, 11)),
          "tail": ([calls("disable"), *TAIL], (14 + 18, 13 + 17, 11 + 15))}
 
 
-def takes(kind, slices, buffer=BUFFER):
+def takes(kind: Any, slices: Any, buffer: Any = BUFFER) -> Any:
     """The instructions of a kind, without the first call."""
     some, none, null = KINDS[kind][1]
     return null if not buffer else none if not slices else some + 5 * slices * (2 if kind == "tail" else 1)
 
 
-def counted(kind, slices, svl, buffer=BUFFER):
+def counted(kind: Any, slices: Any, svl: Any, buffer: Any = BUFFER) -> Any:
     """A program that calls one kind and stores what ZA is then, where it is on; and the count of its run."""
     called, stores = KINDS[kind][0], STORES if kind != "disable" else []
     vectors = svl // 8
@@ -71,7 +74,7 @@ def counted(kind, slices, svl, buffer=BUFFER):
     return program([*FILLS, SET_BLOCK, *called, *stores], block(slices, buffer)), count
 
 
-def counts():
+def counts() -> Iterator[Any]:
     """Each kind with as many slices as may be at each length, and with no buffer."""
     for svl in LENGTHS:
         for slices in sorted({0, 1, 16, svl // 8, *[255] * (svl == 2048)}):
@@ -82,7 +85,7 @@ def counts():
             yield f"lazy-{kind}-of-{slices}-without-a-buffer", *counted(kind, slices, 256, 0), {}
 
 
-def stops():
+def stops() -> Iterator[Any]:
     """Calls where there is no block, a block that is none, and memory that cannot be accessed."""
     ends = lambda *parts: [*FILLS, *parts]
     yield "lazy-save-of-no-block", program(ends(CLEAR_BLOCK, calls("save")), block(32)), {}
@@ -120,7 +123,7 @@ KEEPS_LINK, LINK, RET, SET_SLICES, SET_BYTES = 0xAA1E03F5, 0xAA1503FE, 0xD65F03C
 CHANGES_ZA = [*place(2, PATTERN), add(2, 2, 0x80), movz(12, 1), LOAD]
 
 
-def callees():
+def callees() -> Iterator[Any]:
     """A program for each way in which a function that is called gives ZA back or loses it: the tail brings back what there is, and ZA is stored. Two functions
     are lawful; each of the others breaks one rule of those."""
     saves = lambda *then: [KEEPS_LINK, calls("disable"), *then, LINK, RET]
@@ -149,12 +152,12 @@ NOP, OWN_BLOCK, TIMES = 0xD503201F, 16, 16
 OWN = [SMSTART, PTRUE_P0_B, index(0, 1, 1), dup(1, 3), SMOPA_ZA0_Z0_Z1, SMSTOP_SM, *place(19, BLOCK), add(19, 19, OWN_BLOCK), SET_BLOCK]
 
 
-def again(times):
+def again(times: Any) -> Any:
     """Posts the signal again."""
     return [at(LDR, 9, 19, TIMES), add(9, 9, 1), at(STR, 9, 19, TIMES), subs(31, 9, times), to("enough", EQ), *posts(5), "enough"]
 
 
-def handled(slices, times, pads=(0, 0)):
+def handled(slices: Any, times: Any, pads: Any = (0, 0)) -> Any:
     """A program that posts a signal, then calls DISABLE and makes the tail, where the block says so many slices; there are so many instructions more at its
     start, and in its handler."""
     handler = ["handler", *[NOP] * pads[1], *OWN, calls("disable"), *TAIL, movz(12, 0), add(2, 19, 32), STORE, *again(times), *ask(RETURN)]
@@ -166,7 +169,7 @@ def handled(slices, times, pads=(0, 0)):
 EACH, PADS = 40, (24, 3)
 
 
-def begun_before(file):
+def begun_before(file: Any) -> Any:
     """The places before whose instruction a handler begins, and those of DISABLE's instructions and of the tail's as they are executed without signals."""
     thread, begun, before = Thread(file, 1_000_000, 128, 128, EACH), [], (0, 0)
     while thread.turn() is None:
@@ -180,13 +183,13 @@ def begun_before(file):
     return begun, executed[start:executed.index(place_of(file, TAIL[:4]) + 4 * len(TAIL))]
 
 
-def place_of(file, words):
+def place_of(file: Any, words: Any) -> Any:
     """The address at which the text, which is the first load, has these words."""
     at, = struct.unpack_from("<Q", file, struct.unpack_from("<Q", file, 32)[0] + 8)
     return TEXT + file.index(text_of(words), at) - at
 
 
-def interrupted():
+def interrupted() -> Iterator[Any]:
     """That program with a poll each so many instructions, and with a handler before each instruction of DISABLE and of the tail."""
     for interval in range(1, 41):
         yield f"lazy-3-slices-with-signals-each-{interval}", handled(3, 12), {"svl": 128, "slice": interval}
@@ -197,7 +200,7 @@ def interrupted():
         yield f"lazy-{slices}-slices-with-a-signal-at-each-instruction", file, {"svl": 128, "slice": EACH}
 
 
-def programs():
+def programs() -> Iterator[Any]:
     """All of these: the name of each, the file and the options of its run; of those whose instructions are known the report has the number."""
     for name, file, count, options in counts():
         yield name, file, options, count
@@ -205,7 +208,7 @@ def programs():
         yield name, file, options, None
 
 
-def lazy_rows():
+def lazy_rows() -> Any:
     """Rows as make_rows.py has them. The number of instructions of each kind is asked for by itself, beside the report."""
     rows, files = [], {}
     for name, file, options, count in programs():
@@ -218,7 +221,7 @@ def lazy_rows():
     return rows
 
 
-def moves():
+def moves() -> Iterator[Any]:
     """The name of each plan, its program, the options and the plan: a thread is moved to another core between two instructions of DISABLE and of the tail, and
     between all of them."""
     begun = len(FILLS) - 1 - 5 + 5 * 16 + 2

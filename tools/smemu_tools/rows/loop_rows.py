@@ -3,8 +3,11 @@ and of each form of scalar instruction and of load and store with all registers 
 
 Their reports come from tools/smemu_tools/model/expected.py with all instructions that its interpreters know.
 """
+from __future__ import annotations
+
 import random
 import re
+from typing import Any, Iterator
 
 from smemu_tools.model.elf import Segment, build, text_of
 from smemu_tools.model.expected import Thread
@@ -28,38 +31,38 @@ class KnowsAllWords(KnowsAll, Thread):
     """The interpreter's thread, with all instructions."""
 
 
-def at(word, target, base, offset=0):
+def at(word: Any, target: Any, base: Any, offset: Any = 0) -> Any:
     """An access of a register by another one; the offset is the field of its word."""
     return word | offset << 10 | base << 5 | target
 
 
-def after(word, target, base, amount):
+def after(word: Any, target: Any, base: Any, amount: Any) -> Any:
     """An access that adds an amount to its base then; of a pair X6 is the second."""
     return word | (6 << 10 | amount // 8 << 15 if word & 0x3E000000 == 0x28000000 else amount << 12) | base << 5 | target
 
 
-def value(register, given):
+def value(register: Any, given: Any) -> Any:
     """MOVZ and MOVK that give a register a number."""
     return [(0xF2800000 if k else 0xD2800000) | k << 21 | (given >> 16 * k & 0xFFFF) << 5 | register for k in range(4) if k == 0 or given >> 16 * k & 0xFFFF]
 
 
-def file_of(code, *others, start=CODE, flags=READ_AND_EXECUTE):
+def file_of(code: Any, *others: Any, start: Any = CODE, flags: Any = READ_AND_EXECUTE) -> Any:
     return build([Segment(start, text_of(code), flags=flags), *others], entry=start)[0]
 
 
-def data(flags=READ_AND_WRITE, address=DATA):
+def data(flags: Any = READ_AND_WRITE, address: Any = DATA) -> Any:
     """A page of data, whose last bytes are not zero."""
     return Segment(address + PAGE - 256, NUMBERS[:256], flags=flags)
 
 
-def next_page(flags):
+def next_page(flags: Any) -> Any:
     return Segment(DATA + PAGE, NUMBERS[256:], flags=flags)
 
 
 # ---- words that change
 
 
-def rewritten():
+def rewritten() -> Iterator[Any]:
     """Loops with a word that is written over by another one in each turn, which stands at the place `changed`: X2 and X3 are both words in turn."""
     swap = [EOR | 3 << 16 | 2 << 5 | 2, EOR | 3 << 16 | 2 << 5 | 3, EOR | 3 << 16 | 2 << 5 | 2]
     begin = [movz(9, 6), address(1, "changed"), *value(2, add(5, 5, 1)), *value(3, add(5, 5, 16))]
@@ -81,7 +84,7 @@ def rewritten():
     yield "to-leave", [*begin, *value(3, 0x54000001), *value(2, 0x54000000), "next", store, add(6, 6, 1), *swap, subs(9, 9, 1), "changed", to("next", NE), *EXIT]
 
 
-def rewritten_elsewhere():
+def rewritten_elsewhere() -> Iterator[Any]:
     """Loops that change a function of another page, one after the other by its own page and by the page below it."""
     function = CODE + PAGE
     begin = [movz(9, 6), *value(1, function), *value(2, add(5, 5, 1)), *value(3, add(5, 5, 16))]
@@ -92,7 +95,7 @@ def rewritten_elsewhere():
     yield "over-the-end-of-the-page", [*begin, subs(4, 1, 4), "next", ADD_REGISTER | 2 << 16 | 32 << 10 | ZERO << 5 | 6, at(STR_X, 6, 4), BLR | 1 << 5, *swap, *TURN, *EXIT], [page]
 
 
-def changing():
+def changing() -> Iterator[Any]:
     for name, parts in rewritten():
         yield f"word-changes-{name}", file_of(laid_out(*parts), flags=ALL), {}
     for name, parts, others in rewritten_elsewhere():
@@ -105,7 +108,7 @@ def changing():
 # ---- pages
 
 
-def paged():
+def paged() -> Iterator[Any]:
     """Loops that leave their page and come back, whose places in a page are those of others, and at the ends of pages."""
     other = lambda address, *code: Segment(address, text_of(code), flags=READ_AND_EXECUTE)
     # the second words of the pages are executed in turn, so their places are the same; of the far ones the pages' numbers are alike in their low bits too
@@ -133,7 +136,7 @@ def paged():
         yield f"falls-off-its-page-{name}", file_of([*begin, *[NOP] * (1023 - len(begin)), *words_of_form]), {}
 
 
-def raising():
+def raising() -> Iterator[Any]:
     """Loops that raise in their third turn: a branch to another address, and each kind of access at the end of its page."""
     targets = {"no-multiple-of-4": CODE + 6, "odd": CODE + 1, "no-page": CODE + 2 * PAGE, "data": DATA, "0": 0, "last-word": (1 << 64) - 4, "shared-word": SHARED}
     for name, target in targets.items():
@@ -161,7 +164,7 @@ def raising():
         yield f"second-{name}-at-sp", file_of(laid_out(movz(9, 4), 0xD10083FF, "next", word, 0xD10023FF, *TURN, *EXIT)), {}
 
 
-def with_shared_words():
+def with_shared_words() -> Iterator[Any]:
     """Loops of accesses of shared words between others, with as many operations as a journal's room allows and fewer."""
     base = value(1, SHARED) + value(2, DATA)
     loads = [at(STR_X, 9, 1), at(LDR_X, 4, 2), at(LDR_X, 5, 1), at(STR_X, 5, 2, 1), 0xF8260024, at(LDR_X, 7, 1)]  # ldadd x6, x4, [x1]
@@ -184,7 +187,7 @@ SUMS = re.compile("(add|sub|and|orr|eor|bic|orn|eon|adc|sbc)s?$|(adds|ands|subs|
                   "|umsubl|rbit|rev16|rev32|rev|clz|cls|sbfm|bfm|ubfm|movz|movn|movk|adr|adrp|ccmp|ccmn)$")
 
 
-def with_registers(chance, word, text):
+def with_registers(chance: Any, word: Any, text: Any) -> Any:
     """The word with other registers where its text has some: X0 to X8 are written, and X10 to X19 read, or any of these is register 31."""
     name, operands = text.split(" ", 1)
     fields = [low for low, operand in zip({"madd": (0, 5, 16, 10), "msub": (0, 5, 16, 10)}.get(name, (0, 5, 16, 10)), re.findall(r"\b[xw](?:[0-9]+|zr)\b|\bw?sp\b", operands))]
@@ -196,7 +199,7 @@ def with_registers(chance, word, text):
     return word
 
 
-def forms(chance, known):
+def forms(chance: Any, known: Any) -> Iterator[Any]:
     """Instructions of registers, each with what it wrote folded, and the flags."""
     for word, text in known:
         word = with_registers(chance, word, text)
@@ -208,7 +211,7 @@ def forms(chance, known):
             yield from (MRS_NZCV | FLAGS, FOLD(FLAGS))
 
 
-def of_registers():
+def of_registers() -> Iterator[Any]:
     """Programs of all words of the tables that read and write general registers alone, three turns each; each word comes twice."""
     chance = random.Random(51)
     known = [(word, text) for word, text in words().items() if SUMS.match(text.split(" ")[0]) and not re.search(r"\b[zp][0-9]|za", text)] * 2
@@ -221,7 +224,7 @@ def of_registers():
         yield f"forms-of-registers-{part}", file_of(code), {}
 
 
-def accesses(chance):
+def accesses(chance: Any) -> Iterator[Any]:
     """Loads and stores of each form and size near the border of two pages, each with its base and what it loaded folded."""
     cases = []
     for size in range(4):
@@ -250,7 +253,7 @@ def accesses(chance):
             yield add(31, 25, 0)
 
 
-def of_accesses():
+def of_accesses() -> Iterator[Any]:
     chance = random.Random(52)
     everything = list(accesses(chance))
     body = [*everything]
@@ -273,7 +276,7 @@ STR_Z0_AT_X27, STR_P0_AT_X27, INDEX_Z0, RESULTS = 0xE5804360, 0xE5800360, 0x0420
 ALL_OF = lambda size: PTRUE_ALL | size << 22
 
 
-def predicate_of(kind, size):
+def predicate_of(kind: Any, size: Any) -> Any:
     """P1 of elements of a size: all, none, all but the last or the first, and the first or the last alone."""
     count = COUNT | size << 22 | 4
     return {"all": [ALL_OF(size) | 1], "none": [PFALSE | 1],
@@ -283,7 +286,7 @@ def predicate_of(kind, size):
             "last": [count, SUB | 1 << 10 | 4 << 5 | 4, WHILELO | size << 22 | 4 << 16 | ZERO << 5 | 1, ALL_OF(size) | 2, EOR_PREDICATES | 1 << 16 | 2 << 10 | 2 << 5 | 1]}[kind]
 
 
-def borders(word, text):
+def borders(word: Any, text: Any) -> Iterator[Any]:
     """The access of a vector so that what it reads or writes ends at the end of the pages, or begins at their start, and lies over the border between them."""
     found = re.match(r"(?:ld1s?|st1)([bhwd]) \{z[0-9]+\.([bhsd])", text)
     narrow, wide = ("bhwd".index(found[1]), "bhsd".index(found[2])) if found else (0, 0)
@@ -299,7 +302,7 @@ def borders(word, text):
             yield from (STR_P0_AT_X27 if re.match("ldr p", text) else STR_Z0_AT_X27, ADDVL | 27 << 16 | 1 << 5 | 27)
 
 
-def of_vectors():
+def of_vectors() -> Iterator[Any]:
     """A program of the accesses of vectors of each form at the borders of pages, two turns of it, at each length."""
     known = sorted({word & ~31: (word & ~31, text) for word, text in vector_accesses()}.values())
     body = [word for access, text in known for word in borders(access, text)]
@@ -311,7 +314,7 @@ def of_vectors():
         yield f"forms-of-vector-accesses-{vl}", file_of(code, *pages), {"vl": vl}
 
 
-def loop_rows():
+def loop_rows() -> Iterator[Any]:
     """The programs, and the options of their runs."""
     for kind in (changing, paged, raising, with_shared_words, of_registers, of_accesses, of_vectors):
         yield from kind()

@@ -11,7 +11,10 @@ there are reports of both versions.
 Where the gate runs smemu_rows it has data/ alone, and takes no links there. So a source of examples/ or real/ that is a row stands there too,
 as this script copied it.
 """
+from __future__ import annotations
+
 import re
+from typing import Any, Iterator
 
 from smemu_tools import parser
 from smemu_tools.model.elf import (ALLOC, DYNAMIC, EXECINSTR, INTERP, NOTE, STACK, STRTAB, SYMTAB, TLS, Section, Segment, assembled, build, elf,
@@ -20,7 +23,7 @@ from smemu_tools.model.expected import report
 from smemu_tools.model.expected_debug import listed
 from smemu_tools.model.expected_replay import replay
 from smemu_tools.model.workload import bench_line, text as workload_text
-from smemu_tools.rows import HERE
+from smemu_tools.rows import HERE, without
 from smemu_tools.rows.abi_rows import abi_rows
 from smemu_tools.rows.altered import TWO_THREADS, altered_list, two_threads
 from smemu_tools.rows.changed import changed_list, group
@@ -41,7 +44,7 @@ from smemu_tools.rows.world_rows import world_rows
 
 AT_TEXT = (0x40, 1)
 
-REPORTS = {
+REPORTS: dict[str, Any] = {
     "writes-5-bytes": [*call(64, (1, 0), AT_TEXT, (5, 0)), *EXIT],
     "writes-no-bytes-at-0": [*call(64, (2, 0), (0, 0), (0, 0)), *EXIT],
     "writes-32-bytes": [*call(64, (1, 0), AT_TEXT, (32, 0)), *EXIT],
@@ -84,7 +87,7 @@ for condition in range(16):
     REPORTS[f"condition-{condition}"] = words + EXIT
 
 
-def patched(file, at, value):
+def patched(file: Any, at: Any, value: Any) -> Any:
     return file[:at] + value + file[at + len(value):]
 
 
@@ -94,27 +97,27 @@ CODE = ALLOC | EXECINSTR
 UNLISTED = 0x1E604000
 
 
-def number(value, size):
+def number(value: Any, size: Any) -> Any:
     return value.to_bytes(size, "little")
 
 
-def with_code(segments, *sections, entry=TEXT):
+def with_code(segments: list[Segment], *sections: Section, entry: int = TEXT) -> tuple[bytes, list[int], list[int]]:
     """A file of the segments, with these sections."""
     return build(segments, list(sections), entry)
 
 
-def code_section(size, address=TEXT):
+def code_section(size: int, address: int = TEXT) -> Section:
     return Section(flags=CODE, address=address, size=size)
 
 
-def marked(words, *marks):
+def marked(words: list[int], *marks: tuple[str, int, int]) -> bytes:
     """The words at 0x400000 in a section, with mapping symbols: name, section and value."""
     text = text_of(words)
     table, strings = symbols(*marks)
     return with_code([Segment(TEXT, text)], code_section(len(text)), Section(SYMTAB, data=table, link=3, entry_size=24), Section(STRTAB, data=strings))[0]
 
 
-def header_refusals():
+def header_refusals() -> Iterator[Any]:
     """Files that fail one of the checks on the file's header."""
     file = elf(ANSWER)
     size = len(file)
@@ -135,7 +138,7 @@ def header_refusals():
     yield "header-alone", file[:64], "truncated 64"
 
 
-def segment_refusals():
+def segment_refusals() -> Iterator[Any]:
     """Files that fail one of the checks on a program header. The second header stands at 120."""
     text = Segment(TEXT, text_of(ANSWER))
     bad = Segment(0x500000, b"1234", memory=3)
@@ -158,7 +161,7 @@ def segment_refusals():
         yield name, build([text, Segment(0, b"", kind=NOTE), Segment(address, b"", memory=size)])[0], "inshared 2"
 
 
-def whole_refusals():
+def whole_refusals() -> Iterator[Any]:
     """Files that fail one of the checks on the loads together."""
     text = Segment(TEXT, text_of(ANSWER))
     at = lambda address, memory: Segment(address, b"", flags=6, memory=memory)
@@ -179,7 +182,7 @@ def whole_refusals():
     yield "entry-in-the-page-of-an-executable-load", build([Segment(TEXT, text_of(ANSWER), flags=4), Segment(TEXT + 12, text_of(ANSWER))])[0], "entryoutside 0x0000000000400000"
 
 
-def section_refusals():
+def section_refusals() -> Iterator[Any]:
     """Files that fail one of the checks on the section table. Tables and sections are named by their places."""
     file = elf(ANSWER)
     at = int.from_bytes(file[40:48], "little")
@@ -190,7 +193,7 @@ def section_refusals():
     yield "sections-outside", file[:-1], f"truncated {len(file) - 1}"
     text = text_of(ANSWER)
 
-    def table(link=3, entry_size=24, strings=None, **fields):
+    def table(link: Any = 3, entry_size: Any = 24, strings: Any = None, **fields: Any) -> Any:
         rows, names = symbols(("$x", 1, TEXT))
         section = Section(SYMTAB, data=rows, link=link, entry_size=entry_size)
         for key, value in fields.items():
@@ -217,7 +220,7 @@ def section_refusals():
     yield "first-of-two-bad-sections", file, f"badtable {places[1]}"
 
 
-def word_refusals():
+def word_refusals() -> Iterator[Any]:
     """Files with a code word that means no instruction."""
     yield "unlisted", elf(ANSWER + [UNLISTED]), f"unlisted 0x000000000040000c 0x{UNLISTED:08x}"
     yield "unlisted-narrow-halfword", elf([movz(0, 0, 2, False)]), "unlisted 0x0000000000400000 0x52c00000"
@@ -235,14 +238,14 @@ def word_refusals():
     yield "zeros-past-the-bytes", with_code([Segment(TEXT, text[:15], memory=20)], code_section(16))[0], "unlisted 0x000000000040000c 0x00604000"
 
 
-def real_refusals():
+def real_refusals() -> Iterator[Any]:
     """What linkers make that is not loaded."""
     for name, line in (("pie", "notstatic 3"), ("interpreter", "notstatic 3"), ("tls", "notstatic 7"), ("x86-64", "notthismachine 62"), ("object", "notstatic 1"),
                        ("stripped", "unlisted 0x00000000002101a0 0x55667788")):
         yield f"real-{name}", (HERE / "data" / f"real-{name}.elf").read_bytes(), line
 
 
-def refusals():
+def refusals() -> Iterator[Any]:
     for kind in (header_refusals, segment_refusals, whole_refusals, section_refusals, word_refusals):
         for name, file, line in kind():
             yield f"refused-{name}", file, f"bad file: {line}\n"
@@ -250,7 +253,7 @@ def refusals():
         yield name, file, f"bad file: {line}\n"
 
 
-def loaded():
+def loaded() -> Iterator[tuple[str, bytes, dict[str, int]]]:
     """Files that are loaded, and the options of their runs."""
     text = text_of(ANSWER)
     yield "answer-with-budget-1", elf(ANSWER), {"budget": 1}
@@ -287,13 +290,13 @@ def loaded():
         yield f"real-{name}", (HERE / "data" / f"real-{name}.elf").read_bytes(), {}
 
 
-def program(*words):
+def program(*words: int) -> bytes:
     """The words after X2 was set to the page of data at 0x410000, which ends where nothing is mapped."""
     text = text_of([movz(2, 0x41, 1), *words, *EXIT])
     return build([Segment(TEXT, text), Segment(0x410000, bytes(range(1, 129)), flags=6, memory=4096)])[0]
 
 
-def accesses():
+def accesses() -> Iterator[tuple[str, bytes]]:
     """Loads and stores, and those that raise."""
     yield "stp-over-the-end-of-a-page", program(add(2, 2, 0xFF8), 0xA9000440)
     yield "ldp-over-the-end-of-a-page", program(add(2, 2, 0xFF8), 0xA9400440)
@@ -317,12 +320,12 @@ LDR, STR, LDUR, STUR, LDAR, STLR, CAS, SWP = (0xF9400000, 0xF9000000, 0xF8400000
 LDADD, LDCLR, LDEOR, LDSET, LDSMAX, LDSMIN, LDUMAX, LDUMIN = (0xF8200000 | n << 12 for n in range(8))
 
 
-def at_x3(word, rt, rs=0):
+def at_x3(word: int, rt: int, rs: int = 0) -> int:
     """An access at X3 of Xt, and of Xs where it has one."""
     return word | rs << 16 | 3 << 5 | rt
 
 
-def shared_operations():
+def shared_operations() -> Iterator[tuple[str, bytes]]:
     """Programs that make operations on shared words; X3 is the address of the first, X4 and X5 are 5 and 12, X6 is the greatest number."""
     begin = [AT_SHARED, movz(4, 5), movz(5, 12), 0x92800006]  # the last is movn x6, #0
     program = lambda *words: elf([*begin, *words, *EXIT])
@@ -355,7 +358,7 @@ FOREVER, RETURN = branch(14, 0), [movz(8, 139), SVC]
 SMSTART_BOTH, SMSTART_ZA, SMSTOP_BOTH = 0xD503477F, 0xD503457F, 0xD503467F
 
 
-def handled(handler, *setup, posts=(5,), handlers=(5,), end=(FOREVER,)):
+def handled(handler: list[int], *setup: int, posts: tuple[int, ...] = (5,), handlers: tuple[int, ...] = (5,), end: list[int] | tuple[int, ...] = (FOREVER,)) -> bytes:
     """A program that sets one handler for some signals, posts some to itself, and goes on so; the handler stands past its end."""
     begin = [word for signal in posts for word in [movz(0, 0), movz(1, signal), movz(8, 131), SVC]]
     count = 5 * len(handlers) + len(begin) + len(setup) + len(end)
@@ -363,13 +366,13 @@ def handled(handler, *setup, posts=(5,), handlers=(5,), end=(FOREVER,)):
     return elf([*sets, *begin, *setup, *end, *handler])
 
 
-def changed(offset, amount=1, value=None):
+def changed(offset: int, amount: int = 1, value: int | None = None) -> list[int]:
     """A handler that changes one byte of the frame, at X1, and returns."""
     load = [0x39400029 | offset << 10, add(9, 9, amount, wide=False)] if value is None else [movz(9, value)]
     return [*load, 0x39000029 | offset << 10, *RETURN]
 
 
-def signals(version):
+def signals(version: int) -> Iterator[tuple[str, bytes, dict[str, int]]]:
     """Signals that are posted, polled, delivered and returned from, and frames that are none; the frame is of 16 bytes a vector, and of a version."""
     soon = {"slice": 40, "budget": 120}
     counts = [0xF9401429, add(9, 9, 1), 0xF9001429, *RETURN]  # one more in the X3 that the frame keeps
@@ -433,7 +436,7 @@ LD1B_Z3_P0_AT_X2, LD1B_Z3_P2_AT_X3, LD1B_Z3_P2_AT_SP = 0xA4034043, 0xA4004863, 0
 ST1D_Z3_P1_AT_X2, LD1SB_Z4_D_P1_AT_X2, ST1B_Z4_D_P1_AT_X2 = 0xE5E34443, 0xA5834444, 0xE4634444
 
 
-def vector_accesses():
+def vector_accesses() -> Iterator[Any]:
     """Loads and stores of vectors, and those that raise, at the least and the greatest length."""
     begin = [movz(2, 0x41, 1), PTRUE_P1_D, PFALSE_P2_B, INDEX_Z3_D]
     full = Segment(0x410000, bytes(range(128, 0, -1)) * 32, flags=6)
@@ -459,7 +462,7 @@ MODES = {"setffr": (0x252C9000, 1), "rdffr": (0x2519F000, 3), "wrffr": (0x252890
 PTRUE_P0_B, LD1D_SLICE_P0_AT_X2_X3, STR_ZA_AT_X2 = 0x2518E3E0, 0xE0C30040, 0xE1200040
 
 
-def matrix_stops():
+def matrix_stops() -> Iterator[Any]:
     """Instructions of SME that raise for the mode, whatever they access, and accesses of ZA from below the shared region into it."""
     for name, (word, *values) in MODES.items():
         for svcr in values:
@@ -468,12 +471,12 @@ def matrix_stops():
         yield f"{name}-over-the-shared-region", elf([movz(2, 0x7F00, 2), subs(2, 2, 4), *SMSTART[3], PTRUE_P0_B, word, *EXIT])
 
 
-def listing(*lines):
+def listing(*lines: Any) -> Any:
     """A listing of addresses, words and texts."""
     return "".join(f"{address:016x} {word:08x} {text}\n" for address, word, text in lines)
 
 
-def listings():
+def listings() -> Iterator[Any]:
     """Files, and the status and the text of their listings; the texts of words are those of other tools."""
     words = [line.split("\t") for line in (HERE / "data" / "words.tsv").read_text().splitlines()]
     words = [(int(word, 16), text) for word, text in words]
@@ -499,12 +502,12 @@ def listings():
 HINTS = [0xD503201F | number << 5 for number in range(1, 9)]
 
 
-def hints(*places):
+def hints(*places: Any) -> Any:
     """The listing of those of the eight hints."""
     return listing(*((TEXT + 4 * k, HINTS[k], f"hint #{k + 1}") for k in places))
 
 
-def marked_listings():
+def marked_listings() -> Iterator[Any]:
     """Files of the eight hints whose mapping symbols say which of them are code."""
     yield "symbols-in-order", marked(HINTS, ("$d", 1, TEXT + 4), ("$x", 1, TEXT + 12)), hints(0, 3, 4, 5, 6, 7)
     yield "symbols-in-no-order", marked(HINTS, ("$x", 1, TEXT + 16), ("$d", 1, TEXT + 8)), hints(0, 1, 4, 5, 6, 7)
@@ -518,13 +521,13 @@ def marked_listings():
     yield "symbols-past-the-section", marked(HINTS, ("$d", 1, TEXT + 32), ("$x", 1, 2**64 - 1)), hints(*range(8))
 
 
-def with_tables(*sections):
+def with_tables(*sections: Any) -> Any:
     """A file of the eight hints with these sections, and the places of their headers."""
     file, _, places = with_code([Segment(TEXT, text_of(HINTS))], *sections)
     return file, places
 
 
-def table_listings():
+def table_listings() -> Iterator[Any]:
     """Files of the eight hints with two sections of code, or with two symbol tables."""
     yield "section-of-no-whole-words", with_tables(code_section(8, TEXT + 2))[0], hints(1)
     yield "sections-that-overlap", with_tables(code_section(24), code_section(16, TEXT + 8))[0], hints(*range(6))
@@ -559,7 +562,7 @@ MATRIX_RUNS = {"matmul": [(128, 128), (2048, 512), (128, 2048)], "transpose": [(
 STOPPED_RUNS = {"za-slices": [(512, 25)], "za-products": [(128, 26)]}
 
 
-def runs(programs):
+def runs(programs: list[tuple[str, bytes, bytes]]) -> Iterator[tuple[str, bytes, dict[str, int]]]:
     """The programs with the options of their runs."""
     for name, _, file in programs:
         yield name, file, {}
@@ -571,7 +574,7 @@ def runs(programs):
             yield f"{name}-until-{budget}", file, {"svl": svl, "budget": budget}
 
 
-def compiled():
+def compiled() -> Iterator[tuple[str, bytes, dict[str, int]]]:
     """What two compilers make of examples/c, by real/make_compiled.sh, and the options of its runs; it writes what it writes under QEMU."""
     for path in sorted((HERE / "real" / "compiled").glob("*.elf")):
         file, written = path.read_bytes(), path.with_suffix(".out").read_bytes()
@@ -582,44 +585,44 @@ def compiled():
             yield f"compiled-{path.stem}-at-{length}", file, options
 
 
-def replaced(old, new):
+def replaced(old: Any, new: Any) -> Any:
     """The report with the first such part replaced."""
     return lambda text: text.replace(old, new, 1)
 
 
-def events_of(text):
+def events_of(text: Any) -> Any:
     return [line for line in text.splitlines() if line.startswith("e ")]
 
 
-def without_last_event(text):
+def without_last_event(text: Any) -> Any:
     events = events_of(text)
     return text.replace(f"journal {len(events)}\n", f"journal {len(events) - 1}\n").replace(events[-1] + "\n", "", 1)
 
 
-def with_one_event_more(text):
+def with_one_event_more(text: Any) -> Any:
     events = events_of(text)
     return text.replace(f"journal {len(events)}\n", f"journal {len(events) + 1}\n").replace("end-thread", f"{events[-1]}\nend-thread")
 
 
-def with_other_answer(text):
+def with_other_answer(text: Any) -> Any:
     last = events_of(text)[-1]
     return text.replace(last, last[:-16] + "00000000000000aa")
 
 
-def with_other_place(text):
+def with_other_place(text: Any) -> Any:
     first = events_of(text)[0]
     kind, place = first.split()[1:3]
     return text.replace(first, first.replace(f"{kind} {place}", f"{kind} 31"), 1)
 
 
-def replays(programs, version):
+def replays(programs: Any, version: Any) -> Iterator[Any]:
     """Reports of programs in a version, as they are and altered: the name of the report, the program, the report and the thread."""
     prefix = {1: "", 2: "version-2-"}[version]
     for name, *row in altered_replays(programs, version):
         yield prefix + name, *row
 
 
-def altered_replays(programs, version):
+def altered_replays(programs: Any, version: Any) -> Iterator[Any]:
     same = lambda text: text
     everywhere = {"as-it-is": same, "with-another-sp": replaced("\nsp 0", "\nsp 1"), "with-a-turn-more": replaced("\nturns ", "\nturns 1"),
                   "with-a-count-more": replaced("\ncount ", "\ncount 1"), "with-count-2": lambda text: re.sub("\ncount .*", "\ncount 2", text)}
@@ -647,7 +650,7 @@ def altered_replays(programs, version):
         yield "of-no-program", "refused-empty", "", 0, 6, "bad file: truncated 0\n"
 
 
-def workload_rows():
+def workload_rows() -> Iterator[Any]:
     """Sources of workloads and what their runs print, by a program that shares nothing with the emulator."""
     for number in (1, 2, 77, 20000):
         yield f"gen-{number}", 0, b"", workload_text(number), f"gen {number}"
@@ -656,7 +659,7 @@ def workload_rows():
         yield f"bench-{number}-on-{cores or 1}", 0, b"", bench_line(number) + "\n", f"bench {number}{options}"
 
 
-def told(sort, name):
+def told(sort: Any, name: Any) -> Any:
     """What the program prints of a file of lines, of which each agrees."""
     text = (HERE / "data" / name).read_text()
     count = text.count("\n")
@@ -674,7 +677,7 @@ def told(sort, name):
             "differing": f"{name}: {cases} of {cases} cases have another text, as they must\n"}[sort]
 
 
-def words_of(options):
+def words_of(options: Any) -> Any:
     """The words of a row: as they are, or a command with its options, where the file stands after the programs."""
     if isinstance(options, str):
         return options
@@ -690,7 +693,7 @@ FAILING = ("answer.elf", "writes-33-and-then-to-2.elf", "answer.s", "listing-wor
            "resume-answer.report", "resume-answer-with-another-sp.report", "resume-answer-of-no-checkpoint.report")
 
 
-def main():
+def main() -> None:
     parser(__doc__).parse_args()
     data = HERE / "data"
     rows = [(name, elf(words), {"slice": 1_000_000} if name == "loops" else {}) for name, words in REPORTS.items()] + list(loaded()) + [(name, file, {}) for name, file in [*accesses(), *shared_operations()]]
@@ -698,13 +701,13 @@ def main():
     rows += [*signals(2), *masked_and_nested(), *runs(programs), *compiled(), *vector_accesses(), *((name, file, {}) for name, file in matrix_stops())]
     rows = [(f"{name}.elf", 0, file, report(file, **options), {"run": "", **options}) for name, file, options in rows]
     rows += [(f"loop-{name}.elf", 0, file, report(file, thread=KnowsAllWords, **options), {"run": "", **options}) for name, file, options in loop_rows()]
-    files = {name.removesuffix(".elf"): file for name, _, file, _, _ in rows}
-    written = {name.removesuffix(".elf"): text.encode() for name, _, _, text, _ in rows}
+    files = {without(name, ".elf"): file for name, _, file, _, _ in rows}
+    written = {without(name, ".elf"): text.encode() for name, _, _, text, _ in rows}
     rows += [(f"{name}.elf", 6, file, text, {"run": ""}) for name, file, text in refusals()]
     rows += [(f"listing-{name}.elf", status, file, text, {"dis": ""}) for name, file, status, text in listings()]
     rows += [(f"source-{name}.s", 7, source, text, {"asm": ""}) for name, source, text in source_refusals()]
     rows += [(f"{name}.s", 0, source, file, {"asm": ""}) for name, source, file in [*programs, *lazy_savings(), ("source-with-lines-that-move", SOURCE, asm(SOURCE)[1])]]
-    runnable = [(name.removesuffix(".elf"), (name.removesuffix(".elf"), file, {k: v for k, v in options.items() if v})) for name, status, file, _, options in rows
+    runnable = [(without(name, ".elf"), (without(name, ".elf"), file, {k: v for k, v in options.items() if v})) for name, status, file, _, options in rows
                 if status == 0 and "run" in options]
     again = [*replays(runnable, 1), *replays(runnable, 2), *version_1_replays(files, signals(1)), *replays_of_nested(runnable)]
     rows += [(f"replay-{name}.report", status, text.encode(errors="surrogateescape"), out, {"replay": "", f"{program}.elf": "", str(number): ""})
@@ -719,8 +722,9 @@ def main():
     rows += [(f"{name}.elf", None, file, "", "") for name, file in framed.items()] + [(name, None, text.encode(), "", "") for name, text in framed_reports.items()]
     others = {name: file for name, _, file, _, _ in rows if name in ("debug-signals.report", *TWO_THREADS.values())}
     altered = altered_list(files, written, others)
-    contents = {name: file for name, _, file, _, _ in rows} | {f"{name}.txt": text if isinstance(text, bytes) else text.encode() for name, _, _, text, _ in rows}
-    abi_files, abi_reports, abi_list = abi_rows(contents, sorted(name.removesuffix(".elf") for name in contents if re.fullmatch("lazy-callee-.*[.]elf", name)))
+    contents = {name: file for name, _, file, _, _ in rows}
+    contents.update((f"{name}.txt", text if isinstance(text, bytes) else text.encode()) for name, _, _, text, _ in rows)
+    abi_files, abi_reports, abi_list = abi_rows(contents, sorted(without(name, ".elf") for name in contents if re.fullmatch("lazy-callee-.*[.]elf", name)))
     rows += [(f"{name}.elf", None, file, "", "") for name, file in abi_files.items()] + [(name, None, text.encode(), "", "") for name, text in abi_reports.items()]
     rows += [(f"abi-check-{name}.report", status, abi_reports[f"abi-{name}.report"].encode(), text, {"abi-check": "", f"abi-{name}.elf": "", "0": ""})
              for name, (status, text) in ((name, abi_check(abi_files[f"abi-{name}"], abi_reports[f"abi-{name}.report"].encode(), 0)) for name in ("twice", "second-loses"))]

@@ -5,8 +5,11 @@
 The thread runs on the interpreters of tools/smemu_tools/model/expected.py and expected_replay.py; the words of the routines and of the tail are those of lazy.py. A call is
 marked where the tail stands behind it, whose BL names the words of __arm_tpidr2_restore, before which those of __arm_za_disable stand.
 """
+from __future__ import annotations
+
 import pathlib
 import sys
+from typing import Any
 
 from smemu_tools import parser
 from smemu_tools.model.expected import SHARED, signed
@@ -26,51 +29,51 @@ class Unlawful(Exception):
 # ---- memory
 
 
-def mapped(thread, need, address, count):
+def mapped(thread: Any, need: Any, address: Any, count: Any) -> Any:
     """Tells whether each byte is in a page that has the permission."""
     pages = (thread.pages.get((address + k & MASK) // 4096) for k in range(count))
     return all(page is not None and page[0] & need == need for page in pages)
 
 
-def content(thread, address, count):
+def content(thread: Any, address: Any, count: Any) -> Any:
     return bytes(thread.pages[(address + k & MASK) // 4096][1][(address + k) % 4096] for k in range(count))
 
 
-def word(thread, address, need=ANY):
+def word(thread: Any, address: Any, need: Any = ANY) -> Any:
     """The word there; None where a byte of it is in no page of that permission."""
     if not mapped(thread, need, address, 4):
         return None
     return int.from_bytes(content(thread, address, 4), "little")
 
 
-def are_words(thread, address, words):
+def are_words(thread: Any, address: Any, words: Any) -> Any:
     return all(word(thread, address + 4 * k & MASK) == wanted for k, wanted in enumerate(words))
 
 
-def is_private(thread, need, address, count):
+def is_private(thread: Any, need: Any, address: Any, count: Any) -> Any:
     return not any((address + k & MASK) in SHARED for k in range(count)) and mapped(thread, need, address, count)
 
 
-def has_words(thread, address, count):
+def has_words(thread: Any, address: Any, count: Any) -> Any:
     """The words that stand there can be executed and read."""
     return address % 4 == 0 and mapped(thread, EXECUTE, address, count) and mapped(thread, READ, address, count)
 
 
-def apart(a, n, b, k):
+def apart(a: Any, n: Any, b: Any, k: Any) -> Any:
     return not any(((a + i) - b) & MASK < k for i in range(n))
 
 
 # ---- calls
 
 
-def is_call(code):
+def is_call(code: Any) -> Any:
     return code is not None and (code >> 26 == 0x25 or code & 0xFFFFFC1F == 0xD63F0000)
 
 
 class Call:
     """A marked call, in the state after it."""
 
-    def __init__(self, thread, tail, restore):
+    def __init__(self, thread: Any, tail: Any, restore: Any) -> None:
         self.tail, self.restore, self.disable = tail, restore, restore - 80 & MASK
         self.sp, self.depth, self.block, self.size = thread.sp, thread.depth, thread.x[19], thread.matrix.lengths[1]
         self.za = [bytes(vector) for vector in thread.matrix.za]
@@ -78,7 +81,7 @@ class Call:
         if self.dormant:
             self.kept = self.watched(thread)
 
-    def is_dormant(self, thread):
+    def is_dormant(self, thread: Any) -> Any:
         b = self.block
         if not thread.matrix.on or thread.tpidr2 != b or b == 0 or b % 16 or not is_private(thread, READ, b, 16):
             return False
@@ -93,17 +96,17 @@ class Call:
         return (all(has_words(thread, at, size) for at, size in self.words())
                 and all(apart(self.buffer, count, at, size) for at, size in [(b, 16), *self.words()]))
 
-    def words(self):
+    def words(self) -> Any:
         return (self.disable, 80), (self.restore, 72), (self.tail, 24)
 
-    def watched(self, thread):
+    def watched(self, thread: Any) -> Any:
         """What is to stay as it is."""
         return [content(thread, at, size) for at, size in [(self.block, 16), *self.words()]]
 
-    def is_back(self, thread):
+    def is_back(self, thread: Any) -> Any:
         return thread.pc == self.tail and thread.sp == self.sp and thread.depth == self.depth
 
-    def is_lawful(self, thread):
+    def is_lawful(self, thread: Any) -> Any:
         if not self.dormant or self.watched(thread) != self.kept or thread.x[19] != self.block:
             return False
         if thread.matrix.on:
@@ -111,7 +114,7 @@ class Call:
         return thread.tpidr2 == 0 and all(content(thread, self.buffer + i * self.size, self.size) == self.za[i] for i in range(self.saved))
 
 
-def marked(thread, tail):
+def marked(thread: Any, tail: Any) -> Any:
     """The marked call before a tail, if one stands there."""
     bl = word(thread, tail + 16 & MASK)
     if bl is None or bl >> 26 != 0x25:
@@ -125,10 +128,10 @@ def marked(thread, tail):
 class Watch:
     """The marked calls of a run, state by state."""
 
-    def __init__(self):
+    def __init__(self) -> None:
         self.open, self.returned = [], 0
 
-    def sees(self, thread, past):
+    def sees(self, thread: Any, past: Any) -> None:
         """A state; it is one after a call where there is an address past it. A fault raises."""
         back = [call for call in self.open if call.is_back(thread)]
         if not all(call.is_lawful(thread) for call in back):
@@ -144,7 +147,7 @@ class Watch:
             self.open.append(call)
 
 
-def watched_run(thread, count):
+def watched_run(thread: Any, count: Any) -> Any:
     """The line that is told of the run, which is to stop at that count with all events used, and the status."""
     watch, told, stop = Watch(), None, None
     while stop is None:
@@ -167,7 +170,7 @@ def watched_run(thread, count):
     return (UNLAWFUL, told) if told else (0, f"abi yes calls {watch.returned} open {len(watch.open)}\n")
 
 
-def abi_check(file, report, number):
+def abi_check(file: Any, report: Any, number: Any) -> Any:
     """The status and the text."""
     try:
         options, _, theirs = opened(file, report, number)
@@ -176,7 +179,7 @@ def abi_check(file, report, number):
         return end.args
 
 
-def main():
+def main() -> Any:
     words = parser(__doc__)
     words.add_argument("program", type=pathlib.Path, metavar="PROGRAM")
     words.add_argument("report", type=pathlib.Path, metavar="REPORT")

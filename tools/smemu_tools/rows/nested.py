@@ -1,5 +1,8 @@
 """Programs with masks of signals and handlers within handlers, for `run`, and frames put together by hand that a handler returns from."""
+from __future__ import annotations
+
 import struct
+from typing import Any, Iterator
 
 from smemu_tools.model.elf import Segment, build, elf, text_of
 from smemu_tools.rows.instructions import EXIT, add, address, laid_out, movz, subs, to
@@ -13,7 +16,7 @@ ALL = (1 << 64) - 1
 X0_OF_FRAME, MASK_OF_FRAME, DEPTH_OF_FRAME, HEAD = 16, 320, 328, 336
 
 
-def constant(rd, value):
+def constant(rd: int, value: int) -> list[int]:
     """The words that make a number of 64 bits."""
     if value == ALL:
         return [MOVN | rd]
@@ -22,32 +25,32 @@ def constant(rd, value):
     return [movz(rd, first, hw), *(MOVK | hw << 21 | part << 5 | rd for part, hw in rest)]
 
 
-def signals(*numbers):
+def signals(*numbers: int) -> int:
     """The bits of signals."""
     return sum(1 << number for number in numbers)
 
 
-def sets(**handlers):
+def sets(**handlers: str) -> list[int | tuple[int, str]]:
     """Sets the handler of each signal, given as `s5="place"`."""
     return [part for name, place in handlers.items() for part in (movz(0, int(name[1:])), address(1, place), *ask(SET_HANDLER))]
 
 
-def posts(*numbers):
+def posts(*numbers: int) -> list[int]:
     """Posts these signals to thread 0, in this order."""
     return [word for number in numbers for word in (movz(0, 0), movz(1, number), *ask(POST))]
 
 
-def masks(how, bits):
+def masks(how: int, bits: int) -> list[int]:
     """Changes the mask."""
     return [*constant(0, how), *constant(1, bits), *ask(MASK_SIGNALS)]
 
 
-def spins(times, name):
+def spins(times: int, name: str) -> list[int | str | tuple[int, str]]:
     """A loop of two instructions."""
     return [movz(11, times), name, subs(11, 11, 1), to(name, NE)]
 
 
-def puts(value, register, frame=1):
+def puts(value: int, register: int, frame: int = 1) -> list[int]:
     """Puts a number into a register that the frame at X1 keeps."""
     return [movz(9, value), at(STR, 9, frame, X0_OF_FRAME + 8 * register)]
 
@@ -57,11 +60,11 @@ RETURNS, FOR_EVER = ask(RETURN), ["wait", to("wait")]
 SOON = {"slice": 40, "budget": 120}
 
 
-def simple(*parts):
+def simple(*parts: Any) -> bytes:
     return elf(laid_out(*parts))
 
 
-def mask_programs():
+def mask_programs() -> Iterator[tuple[str, bytes, dict[str, int]]]:
     """The call that changes the mask, and signals that wait for it."""
     keeps = lambda register: [copy(register, 0)]
     yield "mask-adds-all-and-is-refused", simple(*masks(ADDS, ALL), *keeps(20), *masks(3, ALL), *keeps(21), *EXIT), {}
@@ -88,7 +91,7 @@ def mask_programs():
         *masks(ADDS, signals(6)), *posts(6), *spins(20, "spin"), *masks(TAKES, signals(6)), *FOR_EVER), {"slice": 20, "budget": 120}
 
 
-def nested_programs():
+def nested_programs() -> Iterator[tuple[str, bytes, dict[str, int]]]:
     """Handlers within handlers."""
     both = simple(*sets(s3="three", s5="five"), *posts(5, 3), *FOR_EVER, "three", *puts(3, 23), *RETURNS, "five", *RETURNS)
     for name, budget in (("after-an-instruction-of-the-second", 41), ("after-its-return", 42), ("to-the-end", 120)):
@@ -125,7 +128,7 @@ def nested_programs():
             "slice": 40, "budget": 60}
 
 
-def streaming(value):
+def streaming(value: int) -> list[int]:
     """Streaming mode, with a predicate, vectors and ZA that a value tells from others."""
     return [SMSTART, PTRUE_P0_B, index(3, value, value), dup(0, value), dup(1, value + 1), SMOPA_ZA0_Z0_Z1]
 
@@ -135,14 +138,14 @@ STREAMING = simple(*sets(s5="five", s6="six"), *posts(5), *streaming(3), *FOR_EV
                    *RETURNS, "six", *streaming(7), SMOPA_ZA0_Z0_Z1, *RETURNS)
 
 
-def streaming_programs():
+def streaming_programs() -> Iterator[tuple[str, bytes, dict[str, int]]]:
     """The second handler at work, after its return, after that of the first, and at the end."""
     for svl in (128, 512):
         for where, budget in (("at-work", 67), ("returns", 69), ("has-returned", 113), ("to-the-end", 200)):
             yield f"nested-in-streaming-mode-{where}-at-{svl}", STREAMING, {"slice": 30, "budget": budget, "svl": svl}
 
 
-def deep(signal, modes, times=66):
+def deep(signal: int, modes: Any, times: int = 66) -> bytes:
     """A handler that lets its own signal in and posts it, so that handlers come to stand within one another, until it was there so many times in
     all. X19 is the place of how often it began and how often it has ended; at the end X0 has the latter."""
     counts = lambda offset: [at(LDR, 9, 19, offset), add(9, 9, 1), at(STR, 9, 19, offset)]
@@ -161,7 +164,7 @@ EACH_SIGNAL = simple(movz(5, 1), "next", copy(0, 5), address(1, "handler"), *ask
                      subs(31, 5, 63), to("next", NE), *FOR_EVER, "handler", add(9, 20, 1), at(STR, 9, 1, X0_OF_FRAME + 8 * 20), *RETURNS)
 
 
-def deep_programs():
+def deep_programs() -> Iterator[tuple[str, bytes, dict[str, int]]]:
     """As many handlers within one another as there may be, and one signal more, which waits."""
     for name, modes, options in (("", [], {}), ("-with-za", WITH_ZA, {"svl": 128})):
         file = deep(5, modes)
@@ -182,8 +185,8 @@ TOP_OF_STACK, BACK = 0x7E0000000000, TEXT + 4 * 2
 LENGTH = 16
 
 
-def frame(tag=b"SMEFRAM2", size=None, signal=5, x=None, sp=TOP_OF_STACK, pc=BACK, nzcv=0, svcr=0, tpidr2=0, tpidr=0, length=LENGTH, array=LENGTH,
-          mask=0, depth=0, zeros=0, body=None):
+def frame(tag: bytes = b"SMEFRAM2", size: int | None = None, signal: int = 5, x: list[int] | None = None, sp: int = TOP_OF_STACK, pc: int = BACK, nzcv: int = 0, svcr: int = 0, tpidr2: int = 0, tpidr: int = 0, length: int = LENGTH, array: int = LENGTH,
+          mask: int = 0, depth: int = 0, zeros: int = 0, body: bytes | None = None) -> bytes:
     """The bytes of a frame of version 2, with these fields."""
     whole = 336 + 34 * length + 32 + (array * array if svcr & 2 else 0)
     head = tag + struct.pack("<II", whole if size is None else size, signal) + struct.pack("<31Q", *(x or range(100, 131)))
@@ -193,7 +196,7 @@ def frame(tag=b"SMEFRAM2", size=None, signal=5, x=None, sp=TOP_OF_STACK, pc=BACK
     return head + (rest if body is None else body)
 
 
-def old_frame():
+def old_frame() -> bytes:
     """The same of version 1."""
     whole = frame(tag=b"SMEFRAM1", size=352 + 34 * LENGTH)
     return whole[:320] + whole[336:]
@@ -202,7 +205,7 @@ def old_frame():
 PAGE, AT_FRAME = 4096, 0x500000
 
 
-def returns_to(content, before, second=0, first=6):
+def returns_to(content: bytes, before: int, second: int = 0, first: int = 6) -> bytes:
     """A program whose handler returns by these bytes, of which so many stand at the end of a page, and the rest at the start of the next one, whose
     flags are given; 0 is of a page that is not there."""
     start = AT_FRAME + PAGE - before
@@ -213,7 +216,7 @@ def returns_to(content, before, second=0, first=6):
     return build(parts)[0]
 
 
-def frame_programs():
+def frame_programs() -> Iterator[tuple[str, bytes, dict[str, int]]]:
     """Returns by frames that stand over the end of a page, whose fields are good or one of which is not."""
     options = {"slice": 40, "budget": 80, "svl": 128}
     good, with_za, whole = frame(), frame(svcr=2), len(frame())
@@ -231,7 +234,7 @@ def frame_programs():
         yield f"frame-over-a-page-that-can-be-executed-alone-after-{before}", returns_to(good, before, 1), options
     yield "frame-in-a-page-that-can-be-written-alone", returns_to(good, whole, 0, 2), options
     # a field that is not good: the rest is not looked at, whether it is there or not
-    faults = {
+    faults: dict[str, Any] = {
         "tag-of-version-1": {"tag": b"SMEFRAM1"}, "size": {"size": 913}, "size-of-version-1": {"size": 896}, "signal-0": {"signal": 0}, "signal-63": {"signal": 63},
         "flags-bit-27": {"nzcv": 1 << 27}, "svcr-bit-2": {"svcr": 4}, "length": {"length": 32}, "array": {"array": 32},
         "mask-bit-0": {"mask": 1}, "mask-bit-63": {"mask": 1 << 63}, "mask-of-all": {"mask": ALL}, "depth-as-it-is": {"depth": 1}, "depth-above": {"depth": 2},
@@ -267,7 +270,7 @@ def frame_programs():
     yield "return-at-the-last-addresses", simple(*sets(s5="five"), *posts(5), *FOR_EVER, "five", *at_top), SOON
 
 
-def masked_and_nested():
+def masked_and_nested() -> Iterator[tuple[str, bytes, dict[str, int]]]:
     """All of these: the name of each program, its file and the options of its run."""
     for kind in (mask_programs, nested_programs, streaming_programs, deep_programs, frame_programs):
         yield from kind()

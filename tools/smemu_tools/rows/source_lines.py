@@ -3,7 +3,10 @@
 The words of its instructions are written out, as LLVM gives them, and those with a label are put together by their encodings in DDI 0487; directives, labels,
 the order of the faults and the layout of the file are those of docs/ASSEMBLY.md. A line that is not known makes the answer unknown.
 """
+from __future__ import annotations
+
 import re
+from typing import Any, Iterator
 
 from smemu_tools.model.elf import assembled
 from smemu_tools.rows.changed import Unknown
@@ -55,7 +58,7 @@ class Fault(Exception):
     """The line that is told after `bad source: `."""
 
 
-def number(text, line, column, top):
+def number(text: Any, line: Any, column: Any, top: Any) -> Any:
     """The number of a directive, which is below one past the greatest."""
     value = int(text, 0) if re.fullmatch("0|[1-9][0-9]*|0x[0-9a-f]+", text) else None
     if value is None and not re.fullmatch("[0-9]+", text):
@@ -68,22 +71,22 @@ def number(text, line, column, top):
 class Assembler:
     """What the lines so far come to: in each part bytes, and places that labels say; in the text the places of instructions."""
 
-    def __init__(self):
+    def __init__(self) -> None:
         self.parts, self.part = {"text": bytearray(), "data": bytearray()}, "text"
         self.labels, self.places, self.code = {}, [], set()
 
-    def put(self, content, is_code):
+    def put(self, content: Any, is_code: Any) -> None:
         here = self.parts[self.part]
         if self.part == "text" and is_code:
             self.code.add(len(here))
         here += content
 
-    def later(self, size, name, line, word_of, is_code):
+    def later(self, size: Any, name: Any, line: Any, word_of: Any, is_code: Any) -> None:
         """Room for what a label says."""
         self.places.append((self.part, len(self.parts[self.part]), size, name, line, word_of))
         self.put(bytes(size), is_code)
 
-    def take(self, line, text):
+    def take(self, line: Any, text: Any) -> None:
         """A line of the source."""
         code = text.partition("//")[0]
         label = re.match(f"[ \t]*({NAME}):", code)
@@ -94,12 +97,12 @@ class Assembler:
             self.labels[label.group(1)] = self.part, len(self.parts[self.part])
         self.statement(line, code, label.end() if label else 0)
 
-    def check_rest(self, line, code, start):
+    def check_rest(self, line: Any, code: Any, start: Any) -> None:
         """A fault within a line comes before that of its label."""
         if code[start:].strip(" \t"):
             raise Unknown
 
-    def statement(self, line, code, start):
+    def statement(self, line: Any, code: Any, start: Any) -> None:
         words = code[start:].strip(" \t")
         name, _, rest = words.partition(" ")
         if not words or name == ".global" and re.fullmatch(NAME, rest):
@@ -118,18 +121,18 @@ class Assembler:
         else:
             self.branch(line, words)
 
-    def check_place(self):
+    def check_place(self) -> None:
         if len(self.parts[self.part]) % 4:
             raise Unknown
 
-    def branch(self, line, words):
+    def branch(self, line: Any, words: Any) -> None:
         found = re.fullmatch(f"(.*[a-z0-9]),? ({NAME})", words)
         if not found or found.group(1) not in TO_LABEL or ("," in words) != (found.group(1) in ("adr x1", "cbz x3")) or found.group(2) in ("x0", "sp"):
             raise Unknown
         self.check_place()
         self.later(4, found.group(2), line, TO_LABEL[found.group(1)], True)
 
-    def values(self, line, name, code, start):
+    def values(self, line: Any, name: Any, code: Any, start: Any) -> None:
         at = code.index(name, start) + len(name)
         for value in code[at:].split(","):
             word, column = value.strip(" \t"), at + len(value) - len(value.lstrip(" \t")) + 1
@@ -139,15 +142,15 @@ class Assembler:
             else:
                 self.put(number(word, line, column, 1 << 8 * SIZES[name]).to_bytes(SIZES[name], "little"), False)
 
-    def marks(self):
+    def marks(self) -> Any:
         """Where words of code and of data begin in the text; what is no whole word has no mark."""
         kinds = [at in self.code for at in range(0, len(self.parts["text"]) // 4 * 4, 4)]
         return [(TEXT + 4 * k, kind) for k, kind in enumerate(kinds) if k == 0 or kinds[k - 1] != kind]
 
-    def address(self, part, at):
+    def address(self, part: Any, at: Any) -> Any:
         return TEXT + at + (0 if part == "text" else -(-len(self.parts["text"]) // LIMIT) * LIMIT)
 
-    def file(self):
+    def file(self) -> Any:
         """The program, when all lines are taken."""
         for part, at, size, name, line, word_of in self.places:
             if name not in self.labels:
@@ -164,7 +167,7 @@ class Assembler:
         return assembled(bytes(self.parts["text"]), bytes(self.parts["data"]), TEXT + start, self.marks())
 
 
-def asm(source):
+def asm(source: Any) -> Any:
     """The status and the text, or the file."""
     try:
         text = source.decode()
@@ -179,7 +182,7 @@ def asm(source):
         return 7, f"bad source: {fault}\n"
 
 
-def changes():
+def changes() -> Iterator[Any]:
     """Lines removed, doubled, moved and swapped, the source cut after each and doubled, bytes that are no text, and numbers of directives."""
     starts = [0] + [i + 1 for i, byte in enumerate(SOURCE) if byte == 10]
     spans = list(zip(starts, starts[1:]))

@@ -1,6 +1,9 @@
 """Sources, and what `asm` is to answer to them: refusals, which are written out, and program files, whose bytes other assemblers and linkers
 put, but for a few that are short and written out.
 """
+from __future__ import annotations
+
+from typing import Any, Iterator
 from smemu_tools import TOP
 from smemu_tools.model.elf import assembled, mapping_symbols, sections_of, text_of
 from smemu_tools.rows import HERE
@@ -8,7 +11,7 @@ from smemu_tools.rows import HERE
 TEXT = 0x400000
 
 
-def line_faults():
+def line_faults() -> Iterator[Any]:
     """Sources with a line that is not in the grammar: the line, its number and what is wrong there. Columns count characters from 1."""
     # no instruction and no directive has the name
     yield "unknown-first", "foo x0", 1, "unknownname 1"
@@ -88,7 +91,7 @@ def line_faults():
     yield "instruction-misplaced-and-doubled", "_start: svc #0\n.byte 1\n_start: svc #0\n", 3, "badoperand 9"
 
 
-def source_faults():
+def source_faults() -> Iterator[Any]:
     """Sources that are refused for more than a line by itself."""
     yield "empty", b"", 0, "nostart"
     yield "no-start", b"begin: svc #0\n", 0, "nostart"
@@ -148,14 +151,14 @@ def source_faults():
     yield "not-text-after-a-bad-line", b"frob\n\xff", 0, "nottext 5"
 
 
-def source_refusals():
+def source_refusals() -> Iterator[Any]:
     for name, source, line, fault in line_faults():
         yield name, source.encode(), f"bad source: line {line}: line {fault}\n"
     for name, source, line, fault in source_faults():
         yield name, source, f"bad source: line {line}: {fault}\n"
 
 
-def linked(path):
+def linked(path: Any) -> tuple[bytes, bytes, int, list[tuple[int, bool]]]:
     """The text, the data, the entry and the mapping symbols of a file that a linker made."""
     file = path.read_bytes()
     sections = sections_of(file)
@@ -170,7 +173,7 @@ WITH_DATA = (text_of([0xD2800020, 0xDEADBEEF, *EXIT]) + b"\xaa\xbb", b"hello", T
              [(TEXT, True), (TEXT + 4, False), (TEXT + 8, True)])
 
 
-def assemblies():
+def assemblies() -> Iterator[tuple[str, bytes, bytes]]:
     """Sources and their files: the bytes are those that another assembler and linker put, or are written out, laid out as docs/ASSEMBLY.md
     says."""
     for path in sorted((HERE / "real" / "linked").glob("*.elf")):
@@ -199,7 +202,7 @@ TAIL = """\
 """
 
 
-def routine_lines():
+def routine_lines() -> Any:
     """The lines of the three routines, each with its word, as another assembler has it."""
     rest = WRITTEN_OUT[WRITTEN_OUT.index(ROUTINES[0]):]
     texts = [line.strip() for line in rest[:rest.index("\n\n")].splitlines() if line not in ROUTINES]
@@ -208,7 +211,7 @@ def routine_lines():
     return list(zip(words, texts))
 
 
-def lazy_savings():
+def lazy_savings() -> Iterator[Any]:
     """Sources with `.sme_abi` and `.sme_tail`, and their files: one whose instructions another assembler has put, and others that are written out."""
     written_out = HERE / "real" / "linked" / "za-lazy-saving.elf"
     routines = WRITTEN_OUT[WRITTEN_OUT.index(ROUTINES[0]):WRITTEN_OUT.index("\n\n", WRITTEN_OUT.index(ROUTINES[0]))]

@@ -6,10 +6,14 @@ Those of borders are accesses of vectors from the last elements of a page on, fr
 predicates, others and none. Those of first elements are PTRUE with each pattern and WHILELO and WHILELT with counts about the multiples of 8, and the last are reductions
 under full predicates, all elements but one, and with bits between those of the elements.
 """
+from __future__ import annotations
+
 import random
 import re
+from typing import Any, Iterator
 
 from smemu_tools import parser
+from smemu_tools.rows import random_bytes
 from smemu_tools.rows.vector_files import write
 from smemu_tools.rows.word_steps import SHARED, START, elements, line_of, words
 
@@ -24,18 +28,18 @@ REDUCTIONS = {"saddv": 0x04002000, "uaddv": 0x04012000, "smaxv": 0x04082000, "um
               "eorv": 0x04192000, "andv": 0x041A2000}
 
 
-def step(word, state, vl, svl=128):
+def step(word: Any, state: Any, vl: Any, svl: Any = 128) -> Any:
     """A step of a word, by the fields of the state before it."""
     fields = sorted(state.items(), key=lambda field: place_of(field[0]))
     return f"{vl}\t{svl}\t{line_of(word, state)}\t{answer((word, fields), vl, svl)}"
 
 
-def bits(truths):
+def bits(truths: Any) -> Any:
     """The bytes of a predicate."""
     return bytes(sum(truths[at + k] << k for k in range(8)) for at in range(0, len(truths), 8))
 
 
-def of_elements(size, truths, between=lambda: False):
+def of_elements(size: Any, truths: Any, between: Any = lambda: False) -> Any:
     """The predicate of elements of so many bytes, and what its other bits are."""
     return bits([truth if k == 0 else between() for truth in truths for k in range(size)])
 
@@ -43,7 +47,7 @@ def of_elements(size, truths, between=lambda: False):
 # ---- borders
 
 
-def accesses():
+def accesses() -> Iterator[Any]:
     """The words of accesses of a vector or a predicate at X1, and of vectors under P1, with their texts."""
     for word, text in words().items():
         found = re.match(r"(ld1|st1)[a-z]+ \{z[0-9]+\.[bhsd]\}.*\[(x[0-9]+|sp)(, x)?", text)
@@ -55,13 +59,13 @@ def accesses():
             yield word & ~(63 << 16 | 7 << 10 | 31 << 5) | 1 << 5, text
 
 
-def sizes_of(text, length):
+def sizes_of(text: Any, length: Any) -> Any:
     """The bytes of an element in memory and in the register; those of a whole vector or a predicate are each an element."""
     found = re.match(r"(?:ld1s?|st1)([bhwd]) \{z[0-9]+\.([bhsd])", text)
     return (dict(zip("bhwd", (1, 2, 4, 8)))[found[1]], dict(zip("bhsd", (1, 2, 4, 8)))[found[2]]) if found else (1, 1 if " z" in text else 8)
 
 
-def borders():
+def borders() -> Iterator[Any]:
     chance = random.Random(61)
     for number, (word, text) in enumerate(sorted({word & ~31: (word & ~31 | 3, text) for word, text in accesses()}.values())):
         for vl in (LENGTHS[number % 5], LENGTHS[(number + 2) % 5]):
@@ -77,7 +81,7 @@ def borders():
             bases = [end - total, end - total + narrow, end - total + 1, end - narrow, end, START - narrow, START - total, SHARED - narrow, SHARED - total, SHARED + PAGE - narrow, -narrow % LIMIT]
             for truths in predicates:
                 for base in bases:
-                    state = {"x1": f"{base:016x}", "z3": elements(chance, length, wide).hex(), "m": chance.randbytes(40).hex()}
+                    state = {"x1": f"{base:016x}", "z3": elements(chance, length, wide).hex(), "m": random_bytes(chance, 40).hex()}
                     if len(predicates) > 1:
                         state["p1"] = of_elements(wide, truths, lambda: chance.random() < 0.3).hex()
                     found = step(word, state, vl)
@@ -88,7 +92,7 @@ def borders():
 # ---- first elements
 
 
-def firsts():
+def firsts() -> Iterator[Any]:
     chance = random.Random(62)
     for vl in LENGTHS:
         for size in range(4):
@@ -109,7 +113,7 @@ def firsts():
 # ---- reductions
 
 
-def reductions():
+def reductions() -> Iterator[Any]:
     chance = random.Random(63)
     for name, word in REDUCTIONS.items():
         for size in range(4):
@@ -121,13 +125,13 @@ def reductions():
                 gap = chance.randrange(count)
                 for truths, between in (([True] * count, lambda: False), ([True] * count, lambda: True), ([k != gap for k in range(count)], lambda: chance.random() < 0.5),
                                         ([k == gap for k in range(count)], lambda: False), ([chance.random() < 0.5 for _ in range(count)], lambda: chance.random() < 0.5)):
-                    state = {"z7": elements(chance, length, wide).hex(), "z3": chance.randbytes(length).hex(), "p5": of_elements(wide, truths, between).hex()}
+                    state = {"z7": elements(chance, length, wide).hex(), "z3": random_bytes(chance, length).hex(), "p5": of_elements(wide, truths, between).hex()}
                     yield step(word | size << 22 | 5 << 10 | 7 << 5 | 3, state, vl)
         # no element is active
         yield step(word | 5 << 10 | 7 << 5 | 3, {"z7": elements(chance, 16, 1).hex()}, 128)
 
 
-def main():
+def main() -> Any:
     parser(__doc__).parse_args()
     for name, steps in ("border-steps", borders()), ("first-steps", firsts()), ("reduced-steps", reductions()):
         write(name, steps)

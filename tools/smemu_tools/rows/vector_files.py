@@ -6,8 +6,11 @@
 The first splits steps into files, one for each pair of lengths; a step is VL, SVL, the line of a vector and its answer, with tabs between them. The second compares the answers
 of each file with those of tools/smemu_tools/model/expected_answers.py, and says in which file and line one differs.
 """
+from __future__ import annotations
+
 import re
 import sys
+from typing import Any, Iterator
 
 from smemu_tools import parser
 from smemu_tools.model.expected_answers import BAD_VECTORS, DONE, answers
@@ -18,18 +21,18 @@ DATA = HERE / "data"
 WORKERS = (1, 2, 64)
 
 
-def lengths_of(name):
+def lengths_of(name: Any) -> Any:
     """The lengths in the name of a file."""
     return tuple(map(int, re.fullmatch(r".*-([0-9]+)-([0-9]+)\.vectors", name).groups()))
 
 
-def files():
+def files() -> Iterator[Any]:
     """The name of each file of vectors, its content and that of its answers."""
     for path in sorted(DATA.glob("*.vectors")):
         yield path.name, path.read_bytes(), (DATA / f"{path.name}.txt").read_bytes()
 
 
-def vector_rows():
+def vector_rows() -> Iterator[Any]:
     """A row of each file for each number of workers; the lengths of the options need not be said where they are those that are taken without them."""
     for name, content, text in files():
         vl, svl = lengths_of(name)
@@ -40,13 +43,13 @@ def vector_rows():
             yield name, status, content, text, f"vectors @ --vl {vl} --svl {svl} --cores {workers}"
 
 
-def put(name, lines, given, ends=True):
+def put(name: Any, lines: Any, given: Any, ends: Any = True) -> None:
     """Writes a file of lines and its answers; its last line feed may be left out."""
     (DATA / name).write_text("\n".join(lines) + "\n" * ends if lines else "")
     (DATA / f"{name}.txt").write_text("".join(line + "\n" for line in given))
 
 
-def write(name, steps):
+def write(name: Any, steps: Any) -> None:
     """Writes the files of steps."""
     parts = {}
     for vl, svl, line, given in (step.split("\t") for step in steps):
@@ -55,7 +58,7 @@ def write(name, steps):
         put(f"{name}-{vl}-{svl}.vectors", *zip(*lines))
 
 
-def check():
+def check() -> Any:
     """Prints each line of an answer that is not the interpreter's, and how many there are; whether all are."""
     count = faults = 0
     for name, content, text in files():
@@ -67,7 +70,7 @@ def check():
     return not faults
 
 
-def main():
+def main() -> Any:
     words = parser(__doc__)
     words.add_argument("name", metavar="NAME", help="of a file, whose steps are read from standard input, or `check`")
     name = words.parse_args().name

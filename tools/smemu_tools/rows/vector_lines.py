@@ -6,10 +6,14 @@ The lists that make_rows.py writes come from here too, in the form of those of c
 several places of a file, of files with more lines and bytes than there may be, and of steps whose answers were altered by hand. What is to be answered is said by
 tools/smemu_tools/model/expected_answers.py; of each line at fault it is also written here that it is.
 """
+from __future__ import annotations
+
 import itertools
 import random
+from typing import Any, Iterator
 
 from smemu_tools import parser
+from smemu_tools.rows import random_bytes
 from smemu_tools.rows.vector_files import DATA, put
 
 from smemu_tools.model.expected_answers import DONE, MOST_BYTES, PAGE, answers, read_vectors
@@ -33,27 +37,32 @@ c00800a5 svcr=2 za1={"de" * 32} za5={"0f" * 32}
 # ---- fields
 
 
-def values(chance, vl, svl, svcr):
+def values(chance: Any, vl: Any, svl: Any, svcr: Any) -> Any:
     """Each field with a value that is not zero, by its key, in the order of a line."""
     length = (svl if svcr & 1 else vl) // 8
     number = lambda: f"{chance.randrange(1, 1 << 64):016x}"
-    some = lambda count: (chance.randbytes(count - 1) + b"\x80").hex()
-    found = {f"x{n}": number() for n in range(31)} | {"sp": number(), "nzcv": f"{chance.randrange(1, 16):04b}", "tpidr": number(), "tpidr2": number()}
-    found |= {"svcr": str(svcr)} if svcr else {}
-    found |= {f"z{n}": some(length) for n in range(32)} | {f"p{n}": some(length // 8) for n in range(16)} | {"ffr": some(length // 8)}
-    found |= {f"za{n}": some(svl // 8) for n in range(svl // 8)} if svcr & 2 else {}
-    return found | {"m": some(chance.choice((1, 8, 100)))}
+    some = lambda count: (random_bytes(chance, count - 1) + b"\x80").hex()
+    found = {f"x{n}": number() for n in range(31)}
+    found.update(sp=number(), nzcv=f"{chance.randrange(1, 16):04b}", tpidr=number(), tpidr2=number())
+    if svcr:
+        found["svcr"] = str(svcr)
+    found.update((f"z{n}", some(length)) for n in range(32))
+    found.update((f"p{n}", some(length // 8)) for n in range(16))
+    found["ffr"] = some(length // 8)
+    if svcr & 2:
+        found.update((f"za{n}", some(svl // 8)) for n in range(svl // 8))
+    return {**found, "m": some(chance.choice((1, 8, 100)))}
 
 
-def line_of(fields):
+def line_of(fields: Any) -> Any:
     return " ".join([NOP, *(f"{key}={value}" for key, value in fields.items())])
 
 
-def kind_of(key):
+def kind_of(key: Any) -> Any:
     return key.rstrip("0123456789") if key != "tpidr2" else key
 
 
-def of_fields(chance, vl, svl):
+def of_fields(chance: Any, vl: Any, svl: Any) -> Iterator[Any]:
     """Lines with none of the fields, with each one alone, of ZA some, with all but those of a kind, and with fields that are zero."""
     yield NOP
     for svcr in range(4):
@@ -75,10 +84,11 @@ def of_fields(chance, vl, svl):
     yield line_of(fields)
 
 
-def subsets(chance):
+def subsets(chance: Any) -> Iterator[Any]:
     """A line with each set of fields of the kinds, at the least lengths: 2,048."""
     kinds = ("x", "sp", "nzcv", "tpidr", "tpidr2", "z", "p", "ffr", "m")
-    for modes in ({}, {"svcr": "1"}, {"svcr": "2"}, {"svcr": "3", "za": None}):
+    every: tuple[dict[str, Any], ...] = ({}, {"svcr": "1"}, {"svcr": "2"}, {"svcr": "3", "za": None})
+    for modes in every:
         for there in itertools.product((False, True), repeat=len(kinds)):
             fields = values(chance, 128, 128, int(modes.get("svcr", 0)))
             chosen = [f"x{chance.randrange(31)}", f"z{chance.randrange(32)}", f"p{chance.randrange(16)}", f"za{chance.randrange(16)}"]
@@ -115,18 +125,18 @@ BAD = ["", " ", f" {NOP}", f"{NOP} ", f"{NOP}  sp={VALUE}", f"{NOP}\t", f"{NOP}\
        f"{NOP} v0={'ab' * 16}", f"{NOP} é={VALUE}", f"{NOP} x1=\xff", "\xff", "next pc=0000000000020004", "call 0", "shared"]
 
 
-def encoded(line):
+def encoded(line: Any) -> Any:
     """The bytes of a line, of which those above 127 are no text."""
     return line.encode("latin-1")
 
 
-def list_of(base, words, content, cases, vl=128, svl=256):
+def list_of(base: Any, words: Any, content: Any, cases: Any, vl: Any = 128, svl: Any = 256) -> Any:
     """A group of cases, each of which has one change or several."""
     answer = lambda file: answers(file, vl, svl)
     return f"{base} {words}\n" + "".join(case(content, changes, answer) for changes in cases)
 
 
-def replaced_lines():
+def replaced_lines() -> Iterator[Any]:
     """Each line in the place of the only line, of one between two, and of the last, without its line feed; and which line is then at fault."""
     size = len(NOP) + 1
     for line, is_bad in [*((line, False) for line in GOOD), *((line, True) for line in BAD)]:
@@ -138,7 +148,7 @@ def replaced_lines():
         yield [(2 * size, 3 * size, new)], at_end
 
 
-def joined_lines():
+def joined_lines() -> Iterator[Any]:
     """Line feeds where a line is to be."""
     size = len(NOP) + 1
     for at, new, line in ((0, b"\n", 1), (size, b"\n", 2), (3 * size, b"\n", 4), (3 * size, b"\n\n", 4), (3 * size, NOP.encode(), None), (size - 1, b"\r", 1)):
@@ -149,7 +159,7 @@ def joined_lines():
     yield [(0, 3 * size, NOP.encode())], None
 
 
-def lines_list(contents):
+def lines_list(contents: Any) -> Iterator[Any]:
     """The lists of lines, for each number of workers where a file is in the grammar."""
     content, found = contents[THREE], [*replaced_lines(), *joined_lines()]
     for changes, line in found:
@@ -166,7 +176,7 @@ def lines_list(contents):
         yield list_of(THREE, f"vectors @ --svl {svl} --vl {vl}", content, [[(0, 27, f"{line}\n".encode())] for line in cases], vl, svl)
 
 
-def counted_list(contents):
+def counted_list(contents: Any) -> Iterator[Any]:
     """The most lines and one more, whatever it is, and a line at fault among them."""
     content = contents[MOST]
     end, last, middle = len(content), content.rindex(b"\n") + 1, content.index(b"\n", len(content) // 2) + 1
@@ -176,7 +186,7 @@ def counted_list(contents):
     yield list_of(MOST, "vectors @ --vl 128 --svl 128 --cores 64", content, cases, 128, 128)
 
 
-def longest_list():
+def longest_list() -> Iterator[Any]:
     """A file with as many bytes as there may be, whose first line is at fault, and one with one byte more, where nothing else is looked at."""
     piece = b"\n" * PAGE
     for more, line in (b"", "line 1"), (b"\n", "toolong"):
@@ -184,7 +194,7 @@ def longest_list():
         yield f"{NONE} vectors @\n0 0 {piece.hex()}*{MOST_BYTES // PAGE}{'+0a' * len(more)} 14\tbad vectors: {line}|\n"
 
 
-def lists(contents):
+def lists(contents: Any) -> Any:
     return "".join([*lines_list(contents), *counted_list(contents), *longest_list()])
 
 
@@ -195,7 +205,7 @@ def lists(contents):
 ALTERED = DATA.parent / "altered_steps.tsv"
 
 
-def altered_steps():
+def altered_steps() -> Any:
     """Each of the steps with its altered answer, which is not to come."""
     lines = []
     for vl, svl, line, altered in (step.split("\t") for step in ALTERED.read_text().splitlines()):
@@ -205,7 +215,7 @@ def altered_steps():
     return "".join(lines)
 
 
-def main():
+def main() -> None:
     parser(__doc__).parse_args()
     chance = random.Random(7)
     for vl, svl in PAIRS:

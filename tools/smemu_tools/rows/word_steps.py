@@ -5,11 +5,15 @@
 The words of a name take the five vector lengths in turn, so that each name comes at each of them. The state has the registers that the word's text names, at the ends of their
 ranges and between, and data where the instruction accesses memory, mostly where it succeeds. What each gives is what tools/smemu_tools/model/expected_answers.py gives.
 """
+from __future__ import annotations
+
 import itertools
 import random
 import re
+from typing import Any, Iterator
 
 from smemu_tools import parser
+from smemu_tools.rows import random_bytes
 from smemu_tools.rows.vector_files import DATA, write
 
 from smemu_tools.model.expected_answers import PAGE, answer, place_of
@@ -28,7 +32,7 @@ OTHERS = {0x042D9041: "asr z1.b, z2.b, #3", 0x04289483: "lsr z3.b, z4.b, #8", 0x
           0xC0C1A865: "mova za5v.q[w13, 0], p2/m, z3.q", 0xC0824D24: "mova z4.s, p3/m, za2h.s[w14, 1]"}
 
 
-def words():
+def words() -> dict[int, str]:
     """The words with their texts."""
     known = {}
     for name in ("words", "vector_words", "texts"):
@@ -38,25 +42,25 @@ def words():
     return {**known, **OTHERS}
 
 
-def number(chance):
+def number(chance: random.Random) -> int:
     return chance.choice(ENDS) if chance.random() < 0.4 else chance.getrandbits(chance.choice((8, 16, 32, 64, 64, 64)))
 
 
-def elements(chance, length, size):
+def elements(chance: random.Random, length: int, size: int) -> bytes:
     """Bytes of elements, of which some are at an end of their range."""
     ends = [value % (1 << 8 * size) for value in (0, 1, 2, -1, -2, 1 << 8 * size - 1, (1 << 8 * size - 1) - 1)]
     values = [chance.choice(ends) if chance.random() < 0.3 else chance.getrandbits(8 * size) for _ in range(length // size)]
     return b"".join(value.to_bytes(size, "little") for value in values)
 
 
-def predicate(chance, length):
+def predicate(chance: random.Random, length: int) -> bytes:
     """All elements, none, one, or some."""
     count = length // 8
-    return chance.choice((b"\xff" * count, bytes(count), (1 << chance.randrange(length)).to_bytes(count, "little"), chance.randbytes(count), chance.randbytes(count),
-                          chance.randbytes(count)))
+    return chance.choice((b"\xff" * count, bytes(count), (1 << chance.randrange(length)).to_bytes(count, "little"), random_bytes(chance, count), random_bytes(chance, count),
+                          random_bytes(chance, count)))
 
 
-def modes(chance, text):
+def modes(chance: random.Random, text: str) -> int:
     """PSTATE.SM and PSTATE.ZA: mostly those in which the instruction is executed."""
     if re.search(r"\bza", text) and not text.startswith(("smst", "zero", "ldr", "str")):
         return chance.choice((3, 3, 3, 3, 3, 3, 0, 1, 2))
@@ -67,7 +71,7 @@ def modes(chance, text):
     return chance.choice((0, 0, 0, 1, 2, 3))
 
 
-def registers(chance, text, length, streaming_length, svcr):
+def registers(chance: random.Random, text: str, length: int, streaming_length: int, svcr: int) -> dict[str, str]:
     """The fields of the registers that a text names, and now and then of others."""
     state = {}
     for n in re.findall(r"\b[xw]([0-9]+)", text):
@@ -75,7 +79,7 @@ def registers(chance, text, length, streaming_length, svcr):
     for n, suffix in re.findall(r"\bz([0-9]+)(?:\.([bhsdq]))?", text):
         state[f"z{n}"] = elements(chance, length, min(SIZES.get(suffix, 1), 8)).hex()
     for n in re.findall(r"\b[bhsd]([0-9]+)", text) + [str(chance.randrange(32))] * (length <= 64 and chance.random() < 0.2):
-        state[f"z{n}"] = chance.randbytes(length).hex()
+        state[f"z{n}"] = random_bytes(chance, length).hex()
     for n in re.findall(r"\bp([0-9]+)", text) + [str(chance.randrange(16))] * (chance.random() < 0.1):
         state[f"p{n}"] = predicate(chance, length).hex()
     if "ffr" in text or chance.random() < 0.05:
@@ -89,7 +93,7 @@ def registers(chance, text, length, streaming_length, svcr):
     return state
 
 
-def state_of(chance, text, vl, svl):
+def state_of(chance: random.Random, text: str, vl: int, svl: int) -> dict[str, str]:
     """A state for a word of that text, whose accesses are anywhere."""
     svcr = modes(chance, text)
     length = (svl if svcr & 1 else vl) // 8
@@ -103,20 +107,20 @@ def state_of(chance, text, vl, svl):
     if chance.random() < 0.1:
         state[f"x{chance.randrange(31)}"] = f"{number(chance):016x}"
     if "[" in text:
-        state["m"] = chance.randbytes(chance.choice((1, 40, 120, 2 * length))).hex()
+        state["m"] = random_bytes(chance, chance.choice((1, 40, 120, 2 * length))).hex()
     return state
 
 
-def fields_of(state):
+def fields_of(state: dict[str, str]) -> list[tuple[str, str]]:
     """The fields in the order of a line."""
     return sorted(state.items(), key=lambda field: place_of(field[0]))
 
 
-def line_of(word, state):
+def line_of(word: int, state: dict[str, str]) -> str:
     return " ".join([f"{word:08x}", *(f"{key}={value}" for key, value in fields_of(state))])
 
 
-def moved(chance, state, base, given, size):
+def moved(chance: Any, state: Any, base: Any, given: Any, size: Any) -> Any:
     """The base of an access moved, so that its first byte at fault is among the data, or now and then in the shared region; None where it stays."""
     fault = re.fullmatch("raise (?:data|shared|align) ([0-9a-f]{16})( .*)?", given)
     if not fault or chance.random() < 0.1:
@@ -130,7 +134,7 @@ def moved(chance, state, base, given, size):
     return {**state, base: f"{int(state.get(base, '0'), 16) + distance & (1 << 64) - 1:016x}"}
 
 
-def step(chance, word, text, vl, svl):
+def step(chance: Any, word: Any, text: Any, vl: Any, svl: Any) -> Any:
     """The line of a word and its answer."""
     state = state_of(chance, text, vl, svl)
     base = re.search(r"\[(x[0-9]+|sp)", text)
@@ -145,7 +149,7 @@ def step(chance, word, text, vl, svl):
     return f"{vl}\t{svl}\t{line_of(word, state)}\t{given}"
 
 
-def steps():
+def steps() -> Iterator[Any]:
     chance, names = random.Random(20), {}
     for word, text in words().items():
         names.setdefault(text.split(" ")[0], []).extend([(word, text)] * (2 if MORE.search(text) else 1))
@@ -155,7 +159,7 @@ def steps():
             yield step(chance, word, text, vl, svl)
 
 
-def main():
+def main() -> Any:
     parser(__doc__).parse_args()
     write("word-steps", steps())
     return 0

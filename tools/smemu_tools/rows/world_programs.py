@@ -1,4 +1,6 @@
 """Programs of several threads. Each thread starts with its number in X0 and the number of threads in X1."""
+from __future__ import annotations
+
 from smemu_tools.model.elf import Segment, build, elf, text_of
 from smemu_tools.rows.instructions import EXIT, SVC, add, address, laid_out, movz, subs, to, unless
 
@@ -15,40 +17,40 @@ BRK, CBNZ, BR_XZR, SUB_SP_4096, DUP_REGISTER = 0xD4200000, 0xB5000000, 0xD61F03E
 SIGNAL = 7
 
 
-def shared_words(rd):
+def shared_words(rd: int) -> int:
     """The address of the first shared word."""
     return movz(rd, 0x7F00, 2)
 
 
-def number(name, *registers):
+def number(name: int, *registers: int) -> int:
     """The word with registers at its lowest bits, at 9:5 and at 20:16, as many as are given."""
     return name | sum(register << at for register, at in zip(registers, (0, 5, 16)))
 
 
-def at(name, rt, rn, offset=0):
+def at(name: int, rt: int, rn: int, offset: int = 0) -> int:
     """A load or a store of 64 bits at an offset in bytes."""
     return number(name, rt, rn) | offset // 8 << 10
 
 
-def index(zd, start, step):
+def index(zd: int, start: int, step: int) -> int:
     return 0x04204000 | (step & 31) << 16 | (start & 31) << 5 | zd
 
 
-def dup(zd, value):
+def dup(zd: int, value: int) -> int:
     return 0x2538C000 | (value & 255) << 5 | zd
 
 
-def copy(rd, rn):
+def copy(rd: int, rn: int) -> int:
     return add(rd, rn, 0)
 
 
-def ask(service):
+def ask(service: int) -> tuple[int, int]:
     """A call whose arguments are there."""
     return movz(8, service), SVC
 
 
 # each thread adds 1 to shared word 0 that often
-def adds(times):
+def adds(times: int) -> bytes:
     return elf(laid_out(shared_words(0), movz(1, 1), movz(3, times), "loop", number(LDADD, 2, 0, 1), subs(3, 3, 1), to("loop", NE), *EXIT))
 
 

@@ -1,6 +1,9 @@
 """Rows of several threads: `run` with --threads, `sim` with plans, and `replay` of reports of several threads, of both versions. What is to be
 written comes from world.py, and of a replay from tools/smemu_tools/model/expected_replay.py.
 """
+from __future__ import annotations
+
+from typing import Any, Iterator
 from smemu_tools import TOP
 from smemu_tools.model.elf import assembled
 from smemu_tools.model.expected import report as report_of_one
@@ -49,7 +52,7 @@ APART = {
 }
 
 
-def runs():
+def runs() -> Iterator[Any]:
     """The name of each program file, the file, the options and the report."""
     example = {"threads": 2, "slice": 9, "svl": 128}
     yield "threads-of-the-example", EXAMPLE, example, run(EXAMPLE, **example)
@@ -133,7 +136,7 @@ OFFERED_AFTER = SCALAR_BESIDE + "next 0\n" * 3 + "offer 0\nrun 0 100\nfetch 0\n"
 STOPPED_AFTER = SCALAR_BESIDE + "next 0\n" * 3 + "run 0 100\nrun 0 100\n"
 
 
-def some_events(seed, count, cores):
+def some_events(seed: Any, count: Any, cores: Any) -> Any:
     """Events of many kinds on those cores and one more, by a generator of numbers."""
     lines = []
     for _ in range(count):
@@ -143,7 +146,7 @@ def some_events(seed, count, cores):
     return "".join(line + "\n" for line in lines)
 
 
-def in_turns(cores, turns, rounds):
+def in_turns(cores: Any, turns: Any, rounds: Any) -> Any:
     """Each core fetches a thread; then all make that many turns, one core after the other."""
     fetches = "".join(f"fetch {core}\n" for core in range(cores))
     return fetches + "".join(f"run {core} {turns}\n" for core in range(cores)) * rounds
@@ -152,7 +155,7 @@ def in_turns(cores, turns, rounds):
 NESTED = {"threads": 2, "slice": 16}
 
 
-def turns_until(wanted, **options):
+def turns_until(wanted: Any, **options: Any) -> Any:
     """The turns that thread 0 of NESTS makes until a state is as it is wanted."""
     thread = World(NESTS, **options).threads[0]
     while not wanted(thread):
@@ -160,13 +163,13 @@ def turns_until(wanted, **options):
     return thread.turns
 
 
-def exchanged(turns, rounds):
+def exchanged(turns: Any, rounds: Any) -> Any:
     """Two threads on two cores, which change places each time that both have made so many turns."""
     again = "offer 0\noffer 1\nfetch 1\nfetch 0\n"
     return "fetch 0\nfetch 1\n" + again.join([f"run 0 {turns}\nrun 1 {turns}\n"] * rounds)
 
 
-def nested_plans(**options):
+def nested_plans(**options: Any) -> Iterator[Any]:
     """Plans in which a thread is moved within its third handler, with ZA on in it and in all those around it, to a core whose thread has ZA on too."""
     third = turns_until(lambda it: it.depth == 3 and any(map(any, it.matrix.za)), **options)
     second = turns_until(lambda it: it.depth == 2 and any(map(any, it.matrix.za)), **options)
@@ -181,7 +184,7 @@ def nested_plans(**options):
         yield f"changes-cores-each-{turns}-turns", exchanged(turns, 104 // turns + 4)
 
 
-def plans():
+def plans() -> Iterator[Any]:
     """The name of each plan, its program, the options and the plan."""
     for name, plan in (("of-the-example", EXAMPLE_PLAN), ("of-a-part-of-the-example", EXAMPLE_PLAN[:EXAMPLE_PLAN.index("next 1\nrun 1 2")])):
         yield name, "threads", {"threads": 2, "cores": 2, "svl": 128}, plan
@@ -240,7 +243,7 @@ def plans():
 
 GOOD = "fetch 0\nrun 0 3\n"
 # plans that are refused, the line at fault and its kind
-FAULTS = {
+FAULTS: dict[str, Any] = {
     "unknown-name": ("start 0\n", 1, "unknown"),
     "unknown-in-capitals": ("Fetch 0\n", 1, "unknown"),
     "unknown-of-a-script": (GOOD + "step 1\n", 3, "unknown"),
@@ -304,7 +307,7 @@ FAULTS = {
 }
 
 
-def faults():
+def faults() -> Iterator[Any]:
     """The name of each plan that is refused, the plan, and the line and the kind of its fault, which are written out here."""
     for name, (plan, line, kind) in FAULTS.items():
         plan = plan if isinstance(plan, bytes) else plan.encode()
@@ -313,12 +316,12 @@ def faults():
         yield name, plan, text
 
 
-def of_report(text):
+def of_report(text: Any) -> Any:
     """The lines of a simulation from those of a report's first to its last one."""
     return text[text.index("smemu-report "):text.index("\nend\n") + 5]
 
 
-def rewritten(row, version, files):
+def rewritten(row: Any, version: Any, files: Any) -> Any:
     """What a row of `run` or `sim` writes in a version; `files` has the programs by their names."""
     _, _, file, _, words = row
     command, *others = words
@@ -328,13 +331,13 @@ def rewritten(row, version, files):
     return (run if "threads" in options or "cores" in options else report_of_one)(file, kernel=version, **options)
 
 
-def nested_replays(written):
+def nested_replays(written: Any) -> Iterator[Any]:
     """The threads of programs with handlers within handlers, on one core, on four, and moved between cores."""
     for name, count in (("threads-nest.elf", 3), ("threads-nest-threads-8-slice-16-svl-512-cores-4.elf", 8), ("plan-nested-is-moved-and-goes-on-to-the-end-at-128.plan", 2),
                         ("plan-nested-changes-cores-each-1-turns-at-512.plan", 2)):
         report = of_report(written[name])
         for number in range(count):
-            yield f"{name.split('.')[0].removeprefix('plan-')}-{number}", "threads-nest", report, number, *replay(NESTS, report, number)
+            yield f"{name.split('.')[0].replace('plan-', '', 1)}-{number}", "threads-nest", report, number, *replay(NESTS, report, number)
 
 
 # the rows whose reports are replayed in version 1 too
@@ -342,7 +345,7 @@ OLD = ("threads-get-a-signal.elf", "threads-add.elf", "plan-moves-between-cores.
        "plan-runs-part-of-the-answer.plan", "plan-ends-runs-at-yields-and-a-stop.plan", "threads-use-za-in-turn-threads-8-svl-2048-cores-4.elf")
 
 
-def replays(written):
+def replays(written: Any) -> Iterator[Any]:
     """Reports of several threads: the name of the report, the program, the report, the thread, the status and what is written. `written` has
     of each row what it writes."""
     for program, name, count in (("threads-get-a-signal", "threads-get-a-signal.elf", 4), ("threads-add", "plan-moves-between-cores.plan", 2),
@@ -365,7 +368,7 @@ def replays(written):
     refused = {
         "answer-that-goes-on": (going, f"{line(going, 'stop none')}: block"),
         "answer-with-a-skipped-line": (text, "1: header"),
-        "answer-with-a-history": (text.removeprefix("skip 1 noresident\n"), f"{stopped.count(chr(10)) + 1}: end"),
+        "answer-with-a-history": (text.replace("skip 1 noresident\n", "", 1), f"{stopped.count(chr(10)) + 1}: end"),
     }
     for name, (report, fault) in refused.items():
         yield name, "answer", report, 0, 9, f"bad report: line {fault}\n"
@@ -374,7 +377,7 @@ def replays(written):
     yield "thread-0-where-1-goes-on", "threads-yield", report, 0, 9, f"bad report: line {line(report, 'stop none')}: block\n"
 
 
-def world_rows():
+def world_rows() -> Any:
     """Rows as make_rows.py has them: the name, the status, the file, what is to be written, and the words of the command."""
     rows = [(f"{name}.elf", 0, file, text, {"run": "", **options}) for name, file, options, text in runs()]
     files = {"answer": ANSWER, "threads": EXAMPLE, **{name: file for name, (file, _) in PROGRAMS.items()}}

@@ -7,6 +7,8 @@ same cases. The formats are program, source, report, plan, script, vectors and c
 examples/ and of crates/smemu_rows, but of a source there is none: it is assembled, and then what comes is listed, or it is refused with a line. A case that
 differs is printed with its words and its changes, as the lists of crates/smemu_rows/data have them. The status is 1 where one differs.
 """
+from __future__ import annotations
+
 import argparse
 import concurrent.futures
 import functools
@@ -16,11 +18,13 @@ import random
 import re
 import subprocess
 import tempfile
+from typing import Any, Callable
 
 from smemu_tools import TOP
 from smemu_tools.model.expected_ckpt import ckpt, read_for, resume
 from smemu_tools.model.expected_debug import debug, listed
 from smemu_tools.model.world import sim
+from smemu_tools.rows import random_bytes
 from smemu_tools.rows.altered import answer as replayed
 from smemu_tools.rows.changed import ADDRESSES, BYTES, NUMBERS, PLANS, RUN, SCRIPTS, VECTORS, Unknown, after, answered_vectors, fields_of, listing, options_in, ran
 from smemu_tools.user import emulator
@@ -36,7 +40,7 @@ CHECKPOINTS = (("answer", "answer.elf.txt", 0, 1), ("nested-signals", "nested-si
 SOURCES = ("answer.s", "countdown.s", "strlen.s", "za-lazy-saving.s", "threads.s")
 
 
-def read(name):
+def read(name: str) -> bytes:
     return (DATA / name).read_bytes()
 
 
@@ -46,16 +50,16 @@ ROW_WORDS = {name: words for name, _, words in (line.split(" ", 2) for line in (
 # ---- changes
 
 
-def change_of_bytes(chance, content):
+def change_of_bytes(chance: random.Random, content: bytes) -> tuple[int, int, bytes]:
     """A byte changed, put in or taken away, a part taken away or doubled, or the rest cut."""
     at = chance.randrange(len(content) + 1)
     end = min(len(content), at + chance.choice((1, 1, 1, 2, 4, 8, 64)))
-    new = chance.choice((chance.randbytes(end - at), chance.randbytes(1), b"", content[at:end] * 2, bytes([content[at] ^ 1 << chance.randrange(8)]) if at < len(content) else b"\0",
+    new = chance.choice((random_bytes(chance, end - at), random_bytes(chance, 1), b"", content[at:end] * 2, bytes([content[at] ^ 1 << chance.randrange(8)]) if at < len(content) else b"\0",
                          bytes(end - at), b"\xff" * (end - at)))
     return at, len(content) if chance.randrange(20) == 0 else end, new
 
 
-def change_of_text(chance, content):
+def change_of_text(chance: random.Random, content: bytes) -> tuple[int, int, bytes]:
     """A number, a word or a line changed, or bytes."""
     found = [*re.finditer(chance.choice((rb"0x[0-9a-f]+", rb"[0-9]+", rb"[^ \n=]+", rb"[^\n]*\n")), content)]
     if not found or chance.randrange(3) == 0:
@@ -66,7 +70,7 @@ def change_of_text(chance, content):
     return *part.span(), new
 
 
-def change_of_fields(chance, content):
+def change_of_fields(chance: random.Random, content: bytes) -> tuple[int, int, bytes]:
     """A field of a program file at an end of its range, or near what it is, or bytes."""
     if chance.randrange(3) == 0:
         return change_of_bytes(chance, content)
@@ -79,7 +83,7 @@ def change_of_fields(chance, content):
     return at, at + size, (value % top).to_bytes(size, "little")
 
 
-def change_of_vectors(chance, content):
+def change_of_vectors(chance: random.Random, content: bytes) -> tuple[int, int, bytes]:
     """A digit of a value, or another change."""
     found = [*re.finditer(rb"(?<==)[0-9a-f]+", content)]
     if not found or chance.randrange(3) == 0:
@@ -88,7 +92,7 @@ def change_of_vectors(chance, content):
     return at, at + 1, b"%x" % chance.choice((0, 1, 2, 3, chance.randrange(16)))
 
 
-def change_of_checkpoint(chance, content, places):
+def change_of_checkpoint(chance: random.Random, content: bytes, places: Any) -> tuple[int, int, bytes]:
     """A field at an end of its range, near what it is, left out or doubled, or bytes near its beginning, or the rest cut there."""
     at, size = chance.choice(chance.choice(places))
     if chance.randrange(3) == 0:
@@ -102,40 +106,40 @@ def change_of_checkpoint(chance, content, places):
 # ---- formats: the words of a command, the file that is changed, how it is changed, and the answer
 
 
-def programs(chance, texts):
+def programs(chance: random.Random, texts: dict[str, str]) -> tuple[str, bytes, Callable[..., Any], Callable[..., Any]]:
     name = chance.choice([*LISTED, *RUN])
     if name in RUN:
-        return f"run @ --budget 50", read(f"{name}.elf"), change_of_fields, lambda file: ran(file, texts, {"budget": 50})
+        return "run @ --budget 50", read(f"{name}.elf"), change_of_fields, lambda file: ran(file, texts, {"budget": 50})
     return "dis @", read(f"{name}.elf"), change_of_fields, lambda file: listing(file, texts)
 
 
-def sources(chance, texts):
+def sources(chance: random.Random, texts: dict[str, str]) -> tuple[str, bytes, Callable[..., Any], None]:
     return "asm @", read(chance.choice(SOURCES)), change_of_text, None
 
 
-def reports(chance, texts):
+def reports(chance: random.Random, texts: dict[str, str]) -> tuple[str, bytes, Callable[..., Any], Callable[..., Any]]:
     program, name = chance.choice([*REPORTS.items()])
     return f"replay {program}.elf @ 0", read(name), change_of_text, lambda report: replayed(read(f"{program}.elf"), report, 0)
 
 
-def plans(chance, texts):
+def plans(chance: random.Random, texts: dict[str, str]) -> tuple[str, bytes, Callable[..., Any], Callable[..., Any]]:
     name = chance.choice([*PLANS])
     _, program, _, *options = ROW_WORDS[name].split()
     return ROW_WORDS[name], read(name), change_of_text, lambda plan: sim(read(program), plan, **options_in(options))
 
 
-def scripts(chance, texts):
+def scripts(chance: random.Random, texts: dict[str, str]) -> tuple[str, bytes, Callable[..., Any], Callable[..., Any]]:
     name = chance.choice([*SCRIPTS])
     _, program, reported, number, _ = ROW_WORDS[name].split()
     return ROW_WORDS[name], read(name), change_of_text, lambda script: debug(read(program), read(reported), int(number), script, texts)
 
 
-def vectors(chance, texts):
+def vectors(chance: random.Random, texts: dict[str, str]) -> tuple[str, bytes, Callable[..., Any], Callable[..., Any]]:
     return "vectors @", read(chance.choice([*VECTORS])), change_of_vectors, lambda file: answered_vectors(file, texts)
 
 
-@functools.cache
-def made_checkpoint(program, reported, thread, count):
+@functools.lru_cache(None)
+def made_checkpoint(program: str, reported: str, thread: int, count: int) -> Any:
     """A checkpoint, and where its fields stand: those up to the vectors, the vectors, those from there to the first pages, and all."""
     content = ckpt(read(f"{program}.elf"), read(reported), thread, count)[1]
     walk = read_for(content, read(reported))[1]
@@ -143,7 +147,7 @@ def made_checkpoint(program, reported, thread, count):
     return content, (walk.places[:vectors], walk.places[vectors:handlers], walk.places[handlers:pages + 7], walk.places)
 
 
-def checkpoints(chance, texts):
+def checkpoints(chance: random.Random, texts: dict[str, str]) -> tuple[str, bytes, Callable[..., Any], Callable[..., Any]]:
     program, reported, *asked = chance.choice(CHECKPOINTS)
     content, places = made_checkpoint(program, reported, *asked)
     answer = lambda changed: resume(read(f"{program}.elf"), read(reported), changed)
@@ -153,7 +157,7 @@ def checkpoints(chance, texts):
 FORMATS = {"program": programs, "source": sources, "report": reports, "plan": plans, "script": scripts, "vectors": vectors, "checkpoint": checkpoints}
 
 
-def answered(smemu, words, changed, folder):
+def answered(smemu: str, words: str, changed: bytes, folder: str) -> tuple[int, bytes]:
     """The status and the bytes that the emulator writes."""
     path = pathlib.Path(folder) / "changed"
     path.write_bytes(changed)
@@ -162,7 +166,7 @@ def answered(smemu, words, changed, folder):
     return ended.returncode, ended.stdout
 
 
-def is_assembled(smemu, got, folder):
+def is_assembled(smemu: str, got: tuple[int, bytes], folder: str) -> bool:
     """Tells whether a source was assembled to what is listed, or refused with a line."""
     status, text = got
     if status == 7:
@@ -170,7 +174,7 @@ def is_assembled(smemu, got, folder):
     return status == 0 and answered(smemu, "dis @", text, folder)[0] == 0
 
 
-def cases(smemu, name, seed, count, texts):
+def cases(smemu: str, name: str, seed: str, count: int, texts: dict[str, str]) -> tuple[int, list[Any]]:
     """How many cases there were, and those that differ."""
     chance, made, differing = random.Random(f"{name} {seed}"), 0, []
     with tempfile.TemporaryDirectory() as folder:
@@ -192,7 +196,7 @@ def cases(smemu, name, seed, count, texts):
     return made, differing
 
 
-def main():
+def main() -> int:
     asked = argparse.ArgumentParser()
     asked.add_argument("program", nargs="?")
     asked.add_argument("--cases", type=int, default=1000)

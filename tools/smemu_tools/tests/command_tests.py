@@ -6,6 +6,8 @@ PROGRAM is the emulator; where it is not given it is what ./smemu runs. The opti
 emulator takes. The projects of examples/ci are built and run by CMake with CTest, Meson, lit and Cargo, as far as each is there, right ones and ones
 with a fault; what is not there is said. The last line says how many checks there were; the status is 1 where one failed.
 """
+from __future__ import annotations
+
 import argparse
 import collections
 import itertools
@@ -18,6 +20,7 @@ import struct
 import subprocess
 import tempfile
 import time
+from typing import Any, Iterator
 
 from smemu_tools import TOOL, TOP
 from smemu_tools import verbs
@@ -31,13 +34,13 @@ LITS = ("lit", *(f"/usr/lib/llvm-{n}/build/utils/lit/lit.py" for n in range(30, 
 class Tests(beside_tests.Tests):
     """A folder with the wrapper over the emulator, the scripts and the examples."""
 
-    def __init__(self, smemu, folder):
+    def __init__(self, smemu: str, folder: str) -> None:
         super().__init__(smemu, folder)
         doc_tests.make_folder(self.folder, smemu)
         self.wrapper = self.path("smemu")
         self.environment = {**{name: value for name, value in os.environ.items() if name != "SMEMU"}, "PATH": f"{self.folder}:{os.environ['PATH']}"}
 
-    def needs(self, *tools):
+    def needs(self, *tools: str) -> bool:
         """Tells whether tools are there, and says of the first that is not."""
         lacking = next((tool for tool in tools if not shutil.which(tool)), None)
         if lacking:
@@ -48,14 +51,14 @@ class Tests(beside_tests.Tests):
 # the words and their help
 
 
-def commands_of(text):
+def commands_of(text: str) -> tuple[dict[str, list[str]], list[str]]:
     """Each command of the program's help, with the words that follow it, and each option."""
     commands, _, rest = text.partition("\n\n")[2].partition("\n\n")
     options = re.findall(r"(?m)^  (--\w+) [A-Z]+ ", rest)
     return {name: words.split() for name, words in re.findall(r"(?m)^  ([a-z][a-z-]*)((?: [A-Z]+)*)(?:  |$)", commands)}, options
 
 
-def try_helps(tests):
+def try_helps(tests: Tests) -> None:
     """The help of each command shows exactly the options that the emulator takes; each script has a help."""
     whole = tests.run(tests.smemu, "--help")[1]
     commands, options = commands_of(whole)
@@ -75,7 +78,7 @@ def try_helps(tests):
         tests.check(f"{verb} --help", [status, text.startswith(f"usage: smemu {verb} ")], [0, True])
 
 
-def try_scripts(tests):
+def try_scripts(tests: Tests) -> None:
     """A script that is started by its word says what it says by its path."""
     program = tests.assemble("hello", (TOP / "examples/hello.s").read_text())
     whole = tests.report(program, "hello")
@@ -117,7 +120,7 @@ out:
 """
 
 
-def try_threads(tests):
+def try_threads(tests: Tests) -> None:
     """A call of any thread is looked at where none is named, and a change of any thread is found."""
     source = (TOP / "examples/lost.s").read_text()
     program = tests.assemble("two", re.sub("(?m)^square:", "square:\n    cbz x0, fine", source).replace("    ret\n", "fine:\n    ret\n", 1))
@@ -138,7 +141,7 @@ def try_threads(tests):
                     [tests.run(tests.smemu, "replay", program, whole, thread)[0]] * 2)
 
 
-def try_bounds(tests):
+def try_bounds(tests: Tests) -> None:
     """Where a bound was met the last line says what was not looked at, and the status is 3, if nothing was found that is wrong."""
     program = tests.assemble("many", MANY)
     whole = tests.report(program, "many", "--svl", 128)
@@ -166,7 +169,7 @@ def try_bounds(tests):
     tests.check("when, no memory", [status, said], [1, "mem 0x10 8: no memory there: fault 0000000000000010\n"])
 
 
-def try_names(tests):
+def try_names(tests: Tests) -> None:
     """A function that is to share its caller's ZA is one that the program has."""
     program, whole = tests.path("two.elf"), tests.path("two.report")
     for name in ("square", "square,other", ""):
@@ -180,7 +183,7 @@ def try_names(tests):
     tests.check("--shares of a program with names", found, [1, 0, 2])
 
 
-def try_marks(tests):
+def try_marks(tests: Tests) -> None:
     """Where no call is marked abi-check's own line is as it was, and what it is worth stands beside it."""
     for name, number, sentence in (("lost", 0, "smemu: no call of this run is marked, so none was judged\n"), ("lazy", 1, "")):
         program = tests.assemble(name, (TOP / f"examples/{name}.s").read_text())
@@ -196,7 +199,7 @@ def try_marks(tests):
 # what is at fault
 
 
-def mutations(line, rng):
+def mutations(line: str, rng: random.Random) -> Iterator[str]:
     """Lines that differ from a line by a byte that is another, is not there, or is there besides, or by a field."""
     alphabet = "0123456789abcdefxzpmsnqvr =AF-\t\r"
     for _ in range(4):
@@ -211,7 +214,7 @@ def mutations(line, rng):
     yield " ".join(fields[:1] + rng.sample(fields[1:], len(fields) - 1))
 
 
-def try_vector_faults(tests):
+def try_vector_faults(tests: Tests) -> None:
     """`smemu-tools vectors check` refuses exactly the lines that the emulator refuses, and names the field."""
     rng, files = random.Random(1), sorted((TOP / "crates/smemu_rows/data").glob("*.vectors"))
     tried, wrong = collections.Counter(), []
@@ -221,10 +224,10 @@ def try_vector_faults(tests):
         for changed in mutations(line, rng):
             file = tests.path("changed.vectors")
             file.write_bytes(f"1e604000\n{changed}\n1e604000\n".encode())
-            said = subprocess.run([tests.smemu, "vectors", file, "--vl", str(vl), "--svl", str(svl)], stdout=subprocess.PIPE, text=True)
+            ended = subprocess.run([tests.smemu, "vectors", file, "--vl", str(vl), "--svl", str(svl)], stdout=subprocess.PIPE, text=True)
             found = vectors.check(file, vl, svl)
-            tried[said.returncode] += 1
-            if (found and f"bad vectors: line {found[0]}\n") != (said.stdout if said.returncode else None):
+            tried[ended.returncode] += 1
+            if (found and f"bad vectors: line {found[0]}\n") != (ended.stdout if ended.returncode else None):
                 wrong.append((path.name, changed, found))
     tests.check("lines of vectors", [wrong, sorted(tried), min(tried.values()) > 20], [[], [0, 14], True])
     for line, column, why in (
@@ -240,7 +243,7 @@ def try_vector_faults(tests):
         tests.check(f"check {line!r}", [status, said[:len(wanted)], said.splitlines()[-1]], [1, wanted, " " * (column - 1) + "^"])
 
 
-def try_plan_faults(tests):
+def try_plan_faults(tests: Tests) -> None:
     """Of lines of plans and of scripts the kind of fault is the emulator's, so the word that is marked is the one."""
     rng, wrong, kinds = random.Random(2), [], collections.Counter()
     program, whole = tests.path("two.elf"), tests.path("two.report")
@@ -282,7 +285,7 @@ SHOWN = (
 )
 
 
-def try_terminal(tests):
+def try_terminal(tests: Tests) -> None:
     """On a terminal the words and the lines at fault have a mark, and what may stand there; what is no terminal has nothing of it."""
     if not doc_tests.has_terminal():
         print("there is no pseudo-terminal here, so what stands on one is not tried")
@@ -329,7 +332,7 @@ line 5: undefined
 """
 
 
-def try_sources(tests):
+def try_sources(tests: Tests) -> None:
     """On a terminal each line of a source that is at fault is shown, up to 20."""
     if not doc_tests.has_terminal():
         return
@@ -345,7 +348,7 @@ def try_sources(tests):
         tests.check(f"the source {text!r}", "taken out" in "\n".join(doc_tests.shown("./smemu asm one.s", tests.folder)), False)
 
 
-def try_elsewhere(tests):
+def try_elsewhere(tests: Tests) -> None:
     """What ASSEMBLY.md says to write in the place of what LLVM takes is the same word by both."""
     if not tests.needs("clang-19", "llvm-objdump-19"):
         return
@@ -370,7 +373,7 @@ def try_elsewhere(tests):
     tests.check("elsewhere and here", [wrong, new - set(tried), len(tried) > 25], [[], set(), True])
 
 
-def try_slurm(tests):
+def try_slurm(tests: Tests) -> None:
     """A job without a program, and one whose program is refused, fail and leave nothing."""
     tests.path("programs.txt").write_text("two.elf\n\nsix.s\n")
     tests.path("six.s").write_text(SIX)
@@ -385,12 +388,12 @@ def try_slurm(tests):
 # words that are not listed
 
 
-def words_of(name):
+def words_of(name: str) -> list[int]:
     """The words of a file of smemu_rows, which other tools gave."""
     return [int(line.split("\t")[0], 16) for line in (TOP / "crates/smemu_rows/data" / name).read_text().splitlines()]
 
 
-def try_refused(tests):
+def try_refused(tests: Tests) -> None:
     """Exactly the words that mean no instruction are listed, whatever else a file is refused for, and within some seconds."""
     none, known = words_of("no_row.tsv"), [*words_of("words.tsv"), *words_of("vector_words.tsv")]
     words = [word for pair in itertools.zip_longest(none, known) for word in pair if word is not None]
@@ -417,7 +420,7 @@ def try_refused(tests):
         tests.check(f"refused, {name}", tests.run(tests.wrapper, "refused", file), (1, f"not listed: 0\nbad file: {line}\n"))
 
 
-def try_reduction(tests):
+def try_reduction(tests: Tests) -> None:
     """A word that a compiler made is shown with its function, its line, and what FROM_C.md says to write."""
     if not tests.needs("clang-19", "ld.lld-19", "llvm-objdump-19", "llvm-symbolizer-19"):
         return
@@ -428,6 +431,7 @@ def try_reduction(tests):
     tests.run("ld.lld-19", "-static", "-z", "max-page-size=4096", "-e", "sum", "-o", "sum.elf", "sum.o")
     cell = re.search(r"(?m)^\| `fmov x0, d0` \|.*\| (.*) \|$", (TOP / "docs/FROM_C.md").read_text())[1]
     advice = "fmov 1: " + re.sub(r"\[(.*?)\]\(.*?\)", r"\1", cell)
+    last: Any
     for name, where, status, last in (("sum.elf", "sum sum.c:6", 0, []), ("sum.o", ".text sum", 1, ["bad file: notstatic 1"])):
         found, said = tests.run(tests.wrapper, "refused", name)
         lines = said.splitlines()
@@ -437,7 +441,7 @@ def try_reduction(tests):
 # the test of the program
 
 
-def some_rows(tests, data):
+def some_rows(tests: Tests, data: pathlib.Path) -> list[str]:
     """The first row of each command with the files that it names, in a folder; the answer is the rows."""
     rows = {}
     for row in (self_test.DATA / "rows.txt").read_text().splitlines():
@@ -451,7 +455,7 @@ def some_rows(tests, data):
     return list(rows.values())
 
 
-def try_self_test(tests):
+def try_self_test(tests: Tests) -> None:
     """Each sort of line passes as it stands, and fails once with one byte of what is expected changed."""
     whole, data = self_test.DATA, tests.path("data")
     data.mkdir()
@@ -497,7 +501,7 @@ def try_self_test(tests):
 # build systems
 
 
-def try_cmake(tests):
+def try_cmake(tests: Tests) -> None:
     """CTest runs a target by the toolchain file's emulator; a wrong program, and one that is given a word, fail."""
     if not tests.needs("cmake", "ctest", "ninja", "clang-19", "ld.lld-19"):
         return
@@ -516,7 +520,7 @@ def try_cmake(tests):
                     [name == "right", [wanted], name == "given"])
 
 
-def try_meson(tests):
+def try_meson(tests: Tests) -> None:
     """`meson test` runs a program by the cross file's wrapper, with options of `run` behind it."""
     if not tests.needs("meson", "ninja", "clang-19", "ld.lld-19", "llvm-ar-19"):
         return
@@ -531,7 +535,7 @@ def try_meson(tests):
         tests.check(f"meson test, {name}", [status == 0, re.findall(r"(?m)^(?:Ok|Fail): +(\d+)", said)], [not defines, list(wanted)])
 
 
-def try_lit(tests):
+def try_lit(tests: Tests) -> None:
     """lit compiles, runs and tells the test that is wrong."""
     found = next((lit for lit in LITS if shutil.which(lit)), None)
     if not found:
@@ -567,7 +571,7 @@ pub extern "C" fn answer() -> u64 { 42 }
 """
 
 
-def try_cargo(tests):
+def try_cargo(tests: Tests) -> None:
     """`cargo run` starts what it made by the runner, and a word that the program is given is refused."""
     if not tests.needs("cargo"):
         return
@@ -577,7 +581,7 @@ def try_cargo(tests):
         (crate / name).parent.mkdir(parents=True, exist_ok=True)
         (crate / name).write_text(text)
 
-    def cargo(*words):
+    def cargo(*words: str) -> tuple[int, str]:
         ended = subprocess.run(["cargo", *words], cwd=crate, env={**tests.environment, "RUSTC_BOOTSTRAP": "1"}, stdout=subprocess.PIPE, stderr=subprocess.STDOUT, text=True)
         return ended.returncode, ended.stdout
 
@@ -593,7 +597,7 @@ PARTS = (try_helps, try_scripts, try_threads, try_bounds, try_names, try_marks, 
          try_sources, try_elsewhere, try_slurm, try_refused, try_reduction, try_self_test, try_cmake, try_meson, try_lit, try_cargo)
 
 
-def main():
+def main() -> int:
     words = argparse.ArgumentParser(description=__doc__.splitlines()[0])
     words.add_argument("program", nargs="?", metavar="PROGRAM")
     words.add_argument("--only", default="", metavar="NAME", help="the parts with NAME in their names: helps, bounds, cmake ..")

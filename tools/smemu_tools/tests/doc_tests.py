@@ -6,6 +6,8 @@ PROGRAM is the emulator, as in crates/smemu_cli/out; where it is not given it is
 or the end of the block stands what a terminal shows. Those of a page run in its order in a folder of its own, with the wrapper, tools/, examples/, docs/ and release/.
 A command that needs a tool which is not installed is passed over, and so is one that reads a file which that one would have made.
 """
+from __future__ import annotations
+
 import argparse
 import concurrent.futures
 import os
@@ -30,14 +32,14 @@ BUILDERS = {"cmake", "ctest", "meson", "/usr/lib/llvm-19/build/utils/lit/lit.py"
 SECONDS = 60
 
 
-def is_there(tool):
+def is_there(tool: str) -> bool:
     if not shutil.which(tool):
         return False
     version = re.search(r"version (\d+)", subprocess.run([tool, "--version"], capture_output=True, text=True).stdout)
     return not TOOLS[tool] or bool(version) and int(version[1]) >= TOOLS[tool]
 
 
-def commands(page):
+def commands(page: str) -> list[tuple[int, str, list[str]]]:
     """Each command of a page: its line, itself and what it is to print."""
     found, block, empty = [], False, 0
     for number, line in enumerate((TOP / page).read_text().splitlines(), 1):
@@ -56,7 +58,7 @@ def commands(page):
     return found
 
 
-def shown(command, folder):
+def shown(command: str, folder: pathlib.Path) -> list[str]:
     """What a terminal shows of a command: its lines, without what is rewritten in place, as a time or how far it is."""
     main, side = pty.openpty()
     shell = subprocess.Popen(["bash", "-c", command], cwd=folder, stdin=subprocess.DEVNULL, stdout=side, stderr=side, start_new_session=True)
@@ -76,7 +78,7 @@ def shown(command, folder):
     return re.sub(r"[^\n]*\r|\033\[K", "", said.decode(errors="replace").replace("\r\n", "\n")).splitlines()
 
 
-def has_terminal():
+def has_terminal() -> bool:
     """Tells whether the system gives a pseudo-terminal."""
     try:
         for side in pty.openpty():
@@ -86,7 +88,7 @@ def has_terminal():
     return True
 
 
-def make_folder(folder, program):
+def make_folder(folder: pathlib.Path, program: pathlib.Path | str) -> None:
     """The wrapper over the program, or with none the one here, the tools and the examples."""
     for name in ("tools", "examples"):
         shutil.copytree(TOP / name, folder / name)
@@ -101,7 +103,7 @@ def make_folder(folder, program):
     os.symlink(program, folder / "crates/smemu_cli/out/smemu_cli")
 
 
-def try_page(page, program, there):
+def try_page(page: str, program: pathlib.Path, there: dict[str, bool]) -> tuple[list[str], bool]:
     """The lines to say of a page, and whether all its commands printed what is written."""
     ran, passed, lines, lacking = 0, 0, [], set()
     with tempfile.TemporaryDirectory() as name:
@@ -121,7 +123,7 @@ def try_page(page, program, there):
     return [*lines, f"{page}: {ran} commands ran, {passed} were passed over"], not lines
 
 
-def main():
+def main() -> int:
     words = argparse.ArgumentParser(description=__doc__.splitlines()[0])
     words.add_argument("program", nargs="?", type=pathlib.Path, metavar="PROGRAM")
     words.add_argument("--page", choices=PAGES, action="append", help="this page alone, and others that are named so")

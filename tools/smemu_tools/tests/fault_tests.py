@@ -7,6 +7,8 @@ planted in what clang made, the call, the function that is called and the kind a
 of short programs each kind, and its absence. Where clang-19 is there the programs of samples/calls are compiled, each at one level and length or with
 --all at each of five levels and three lengths, and no call of them is told.
 """
+from __future__ import annotations
+
 import argparse
 import itertools
 import os
@@ -15,6 +17,7 @@ import re
 import shutil
 import tarfile
 import tempfile
+from typing import Any
 
 from smemu_tools import TOOL
 from smemu_tools.tests import beside_tests, plant_faults
@@ -69,7 +72,7 @@ SHORT = (
 )
 
 
-def short_kinds(tests, at, changes, words):
+def short_kinds(tests: Any, at: Any, changes: Any, words: Any) -> Any:
     """The kinds that are told of a short program, besides what becomes of ZA."""
     source = beside_tests.CALLS
     for old, new in changes:
@@ -81,14 +84,14 @@ def short_kinds(tests, at, changes, words):
     return kinds, said[0]
 
 
-def try_short(tests):
+def try_short(tests: Any) -> None:
     """Each kind, and what is near it and no fault."""
     for at, (changes, words, wanted) in enumerate(SHORT):
         kinds, status = short_kinds(tests, at, changes, words)
         tests.check(f"{changes} {words}", [kinds, status], [wanted, int(bool(wanted)) if not wanted or status in (0, 1) else 0])
 
 
-def try_planted(tests):
+def try_planted(tests: Any) -> None:
     """Each planted fault is told, and of the unchanged program nothing."""
     with tarfile.open(plant_faults.STORED) as stored:
         stored.extractall(tests.folder)
@@ -104,7 +107,7 @@ def try_planted(tests):
     tests.check("--partial", tests.run(TOOL, "za-calls", tests.path("half-the-slices.elf"), report, *SHARING, "--partial")[0], 0)
 
 
-def told(program, report):
+def told(program: Any, report: Any) -> Any:
     """The faults of all threads that call_faults.py finds."""
     known, found = places.Places(program), []
     for block in reports.read(report).threads:
@@ -113,7 +116,7 @@ def told(program, report):
     return list(call_faults.lines_of(found, known))
 
 
-def try_compiled(tests, is_all):
+def try_compiled(tests: Any, is_all: Any) -> None:
     """No call of a program of clang is told."""
     if not shutil.which("clang-19") or not shutil.which("ld.lld-19"):
         print("fault_tests: clang-19 or ld.lld-19 is not there, so its programs are those that are stored")
@@ -128,7 +131,7 @@ def try_compiled(tests, is_all):
                 tests.check(f"{name} of clang -{level} at {bits}", told(program, report), [])
 
 
-def main():
+def main() -> Any:
     parser = argparse.ArgumentParser(description=__doc__.splitlines()[0])
     parser.add_argument("emulator", nargs="?", metavar="PROGRAM")
     parser.add_argument("--all", action="store_true", help="each program of clang at each level and length")

@@ -5,6 +5,8 @@
 PROGRAM is the emulator; where it is not given it is what ./smemu runs. The last line says how many checks there were; the status is 1 where
 one failed.
 """
+from __future__ import annotations
+
 import os
 import pathlib
 import resource
@@ -13,6 +15,7 @@ import signal
 import subprocess
 import tempfile
 import time
+from typing import Any, Callable
 
 
 from smemu_tools import parser
@@ -44,7 +47,7 @@ VECTORS = "d503201f\nd4000021\n1e604000\n" * 40
 class Tests:
     """A folder for files, and the faults that were found."""
 
-    def __init__(self, smemu, folder):
+    def __init__(self, smemu: str, folder: str) -> None:
         # a copy, where everybody may read it
         self.folder, self.smemu = pathlib.Path(folder), str(pathlib.Path(folder) / "program")
         shutil.copy(smemu, self.smemu)
@@ -52,32 +55,32 @@ class Tests:
             path.chmod(0o755)
         self.number = self.faults = 0
 
-    def check(self, what, found, wanted):
+    def check(self, what: str, found: bytes | int | tuple[int, bytes | str] | None, wanted: bytes | int | tuple[int, bytes | str] | None) -> None:
         self.number += 1
         if found != wanted:
             self.faults += 1
             print(f"{what}:\n  wanted: {wanted!r}\n  found:  {found!r}")
 
-    def put(self, name, content):
+    def put(self, name: str, content: bytes | str) -> str:
         """Makes a file, and gives its name."""
         (self.folder / name).write_bytes(content if isinstance(content, bytes) else content.encode())
         return name
 
-    def start(self, *words, out=subprocess.PIPE, before=None):
+    def start(self, *words: int | str, out: Any = subprocess.PIPE, before: Callable[..., Any] | None = None) -> subprocess.Popen[Any]:
         return subprocess.Popen([self.smemu, *map(str, words)], stdin=subprocess.DEVNULL, stdout=out, cwd=self.folder, preexec_fn=before)
 
-    def run(self, *words, **more):
+    def run(self, *words: Any, **more: Any) -> tuple[int, str]:
         """The status of a command and what it writes."""
         process = self.start(*words, **more)
         written = process.communicate(timeout=SECONDS)[0]
         return process.returncode, (written or b"").decode(errors="replace")
 
 
-def little_memory():
+def little_memory() -> None:
     resource.setrlimit(resource.RLIMIT_AS, (LITTLE, LITTLE))
 
 
-def few_threads(most):
+def few_threads(most: Any) -> None:
     """Lets the user of this process have so many threads in all. The limit does not hold for root, so root becomes nobody first."""
     if os.getuid() == 0:
         os.setgid(NOBODY)
@@ -85,11 +88,11 @@ def few_threads(most):
     resource.setrlimit(resource.RLIMIT_NPROC, (most, most))
 
 
-def no_threads():
+def no_threads() -> None:
     few_threads(0)
 
 
-def program_of(pages, words=ENDS, entry=elf.ADDRESS, **more):
+def program_of(pages: int, words: tuple[int, ...] = ENDS, entry: int = elf.ADDRESS, **more: Any) -> bytes:
     """A program file with one load of so many pages, of which the first begins with the words, in a section of their own."""
     text = elf.text_of(words)
     segment = elf.Segment(data=text, memory=pages * PAGE)
@@ -97,7 +100,7 @@ def program_of(pages, words=ENDS, entry=elf.ADDRESS, **more):
     return elf.build([segment], [section], entry)[0]
 
 
-def try_room_of_loads(tests):
+def try_room_of_loads(tests: Tests) -> None:
     """No page takes memory before all checks have passed: of a load of 15.75 MiB each later check is told, and 2^46 bytes are only counted."""
     most = MOST_PAGES - PAGES_OF_STACK
     cases = {
@@ -114,18 +117,19 @@ def try_room_of_loads(tests):
     tests.check("a small load", tests.run("run", "answer", before=little_memory)[0], 0)
 
 
-def try_room_of_reports(tests):
+def try_room_of_reports(tests: Tests) -> None:
     """A number that says how much follows takes no memory: what is not there is told at the line where it should be."""
     lines = (tests.folder / "report").read_text().splitlines(True)
     for key, number, kind in (("journal", (1 << 32) - 1, "journal"), ("journal", 262_144, "journal"), ("output", (1 << 32) - 1, "block")):
         at = next(place for place, line in enumerate(lines) if line.startswith(key + " "))
+        rest: Any
         for name, rest in ("the end of the file", []), ("the lines after it", lines[at + 1:]):
             tests.put("cut", "".join([*lines[:at], f"{key} {number}\n", *rest]))
             found = tests.run("replay", "answer", "cut", 0, before=little_memory)
             tests.check(f"{key} {number} and {name}", found, (9, f"bad report: line {at + 2}: {kind}\n"))
 
 
-def try_room_of_checkpoints(tests):
+def try_room_of_checkpoints(tests: Tests) -> None:
     """A number that says how many pages follow takes no memory: what is not there is told at the field that lacks."""
     content = (tests.folder / "checkpoint").read_bytes()
     tests.check("a checkpoint", tests.run("resume", "answer", "report", "checkpoint", before=little_memory)[0], 0)
@@ -136,7 +140,7 @@ def try_room_of_checkpoints(tests):
         tests.check(f"{MOST_PAGES} pages and {name}", found, (12, f"bad checkpoint: field {len(changed)}\n"))
 
 
-def try_outputs(tests):
+def try_outputs(tests: Tests) -> None:
     """What cannot be written is status 5, and no signal, of each command and of a refusal."""
     commands = (("run", "answer"), ("run", "answer", "--threads", 2, "--cores", 2), ("asm", "source"), ("dis", "answer"), ("sim", "answer", "plan"),
                 ("replay", "answer", "report", 0), ("ckpt", "answer", "report", 0, 1), ("resume", "answer", "report", "checkpoint"),
@@ -158,7 +162,7 @@ def try_outputs(tests):
     tests.check("a pipe that is closed later", process.wait(timeout=SECONDS), 5)
 
 
-def wait_for(holds):
+def wait_for(holds: Callable[..., Any]) -> bool:
     """Whether it comes to hold."""
     end = time.monotonic() + SECONDS
     while not (found := holds()) and time.monotonic() < end:
@@ -166,13 +170,13 @@ def wait_for(holds):
     return found
 
 
-def threads_of(process):
+def threads_of(process: subprocess.Popen[Any]) -> int:
     """How many threads of the system a process has."""
     with open(f"/proc/{process.pid}/status") as status:
         return next(int(line.split()[1]) for line in status if line.startswith("Threads:"))
 
 
-def try_signals(tests):
+def try_signals(tests: Tests) -> None:
     """A signal ends a run at once, on any number of cores, with nothing written; and one that waits to write."""
     endless = ("run", "loop", "--threads", 32, "--slice", 1_000_000, "--budget", (1 << 32) - 1)
     for cores in 1, 4, 64:
@@ -195,7 +199,7 @@ def try_signals(tests):
     process.stdout.close()
 
 
-def try_threads(tests):
+def try_threads(tests: Tests) -> None:
     """Where the system starts no thread, a run of several cores is made by those that there are, and vectors are answered."""
     words = ("run", "answer", "--threads", 5, "--slice", 1)
     usual = tests.run(*words)
@@ -217,7 +221,7 @@ def try_threads(tests):
     process.communicate()
 
 
-def main():
+def main() -> int:
     words = parser(__doc__)
     words.add_argument("program", nargs="?", metavar="PROGRAM")
     smemu = words.parse_args().program or emulator.find()

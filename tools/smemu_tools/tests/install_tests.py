@@ -6,6 +6,8 @@ PROGRAM is the emulator; where it is not given it is what ./smemu runs. The word
 with those that the program takes, and the completions of each shell are asked where it is on the PATH. What is
 not there is said. The last line says how many checks there were; the status is 1 where one failed.
 """
+from __future__ import annotations
+
 import argparse
 import os
 import pathlib
@@ -13,6 +15,7 @@ import re
 import shutil
 import subprocess
 import tempfile
+from typing import Any
 
 from smemu_tools import TOP
 from smemu_tools import verbs
@@ -27,7 +30,7 @@ USER = 65534
 class Tests(beside_tests.Tests):
     """A folder with a copy of what is installed, and the words that go there."""
 
-    def __init__(self, smemu, folder):
+    def __init__(self, smemu: str, folder: str) -> None:
         super().__init__(smemu, folder)
         self.folder.chmod(0o755)
         self.tree = self.path("tree")
@@ -41,11 +44,11 @@ class Tests(beside_tests.Tests):
         self.program = self.assemble("hello", (TOP / "examples/hello.s").read_text())
         self.report(self.program, "hello")
 
-    def install(self, prefix, *words):
+    def install(self, prefix: pathlib.Path, *words: str) -> tuple[int, str]:
         return self.run(*words, self.tree / "smemu", "--install", prefix)
 
 
-def files_below(folder):
+def files_below(folder: pathlib.Path) -> list[str]:
     """The names of all that is below a folder."""
     return sorted(str(it.relative_to(folder)) for it in folder.rglob("*"))
 
@@ -53,7 +56,7 @@ def files_below(folder):
 # installing
 
 
-def try_all_words(tests, smemu, *before):
+def try_all_words(tests: Tests, smemu: pathlib.Path, *before: str) -> None:
     """An installed command runs programs and scripts, with the program that was installed."""
     run = lambda *words: tests.run(*before, smemu, *words)
     tests.check("--version", run("--version"), tests.run(tests.smemu, "--version"))
@@ -69,7 +72,7 @@ def try_all_words(tests, smemu, *before):
         tests.check(f"{verb} --help", run(verb, "--help"), tests.run(tests.tree / "smemu", verb, "--help"))
 
 
-def try_install(tests):
+def try_install(tests: Tests) -> None:
     """An installation stands where it is put, works without the repository and elsewhere, and is taken away again."""
     prefix, moved = tests.path("prefix"), tests.path("moved")
     status, said = tests.install(prefix)
@@ -97,7 +100,7 @@ def try_install(tests):
                 (1, f"smemu: uninstall: there is no installation in {moved}: it has no lib/smemu/files\n"))
 
 
-def try_again(tests):
+def try_again(tests: Tests) -> None:
     """An installation replaces another, and neither it nor its end takes what is another's."""
     prefix = tests.path("again")
     own = [prefix / "bin/other", prefix / "share/man/man1/other.1"]
@@ -126,7 +129,7 @@ def try_again(tests):
 # other places
 
 
-def make_root(tests, root, has_python):
+def make_root(tests: Tests, root: pathlib.Path, has_python: bool) -> None:
     """A root that has a shell, and Python where it is to, and nothing else."""
     programs = [shutil.which(it) for it in SHELL] + ["/usr/bin/python3"] * has_python
     libraries = subprocess.run(["ldd", *programs, tests.smemu], stdout=subprocess.PIPE, text=True).stdout
@@ -146,7 +149,7 @@ def make_root(tests, root, has_python):
         shutil.copy(tests.path(name), root / "tmp")
 
 
-def try_root(tests):
+def try_root(tests: Tests) -> None:
     """In an empty root the commands run without Python, and the scripts where it is."""
     enter = next((it for it in (("chroot",), ("unshare", "--map-root-user", "chroot"))
                   if subprocess.run([*it, "/", "true"], stderr=subprocess.DEVNULL).returncode == 0), None)
@@ -172,9 +175,10 @@ def try_root(tests):
         tests.check("what is left", (root / "usr/local/lib/smemu").exists(), not has_python)
 
 
-def try_user(tests):
+def try_user(tests: Tests) -> None:
     """A user without rights installs into ~/.local, and nowhere else."""
-    home, words = tests.path("home"), ()
+    home = tests.path("home")
+    words: tuple[Any, ...] = ()
     home.mkdir()
     if os.getuid() == 0:
         if not os.access("/usr/bin/python3", os.X_OK) or not shutil.which("setpriv"):
@@ -199,7 +203,7 @@ def try_user(tests):
 # the words
 
 
-def try_table(tests):
+def try_table(tests: Tests) -> None:
     """The words that are completed are those of the help; the options of a command are those that it takes."""
     table = {it.name: it for it in completions.table()}
     whole = tests.run(tests.tree / "smemu", "--help")[1]
@@ -219,9 +223,9 @@ def try_table(tests):
                 tests.check(f"{name} {option.name} {value}", refused, False)
     for name in verbs.SCRIPTS:
         for option in table[name].options:
-            refused = f"is no option|unrecognized arguments: {option.name}"
+            pattern = f"is no option|unrecognized arguments: {option.name}"
             said = tests.run(tests.tree / "smemu", name, option.name, *["0"] * bool(option.value), "absent", "absent", "x")[1]
-            tests.check(f"{name} {option.name}", re.findall(refused, said), [])
+            tests.check(f"{name} {option.name}", re.findall(pattern, said), [])
     values = {(verb.name, it.name): it.values for verb in table.values() for it in verb.options if it.values and "vl" not in it.name}
     tests.check("values", values, {("show", "--size"): list("bhsd"), ("profile", "--by"): ["function", "line", "address"]})
 
@@ -244,7 +248,7 @@ source $1
 """
 
 
-def wanted_of(table, kind):
+def wanted_of(table: dict[str, completions.Verb], kind: Any) -> list[str]:
     """The words that are to be offered."""
     if isinstance(kind, list):
         return kind
@@ -252,7 +256,7 @@ def wanted_of(table, kind):
     return [it.name for it in (table[name].options if name else table.values()) if it.name.startswith(start)]
 
 
-def try_shells(tests):
+def try_shells(tests: Tests) -> None:
     """Each shell offers what the table has."""
     table = {it.name: it for it in completions.table()}
     for shell, words in (("bash", ("-c", BASH_ASKED, "bash")), ("zsh", ("-f", "-c", ZSH_ASKED, "zsh")), ("fish", ("-N", "-c", "source $argv[1]; complete -C $argv[2]"))):
@@ -270,7 +274,7 @@ def try_shells(tests):
             tests.check(f"{shell}, {typed!r}", sorted(found), sorted(wanted_of(table, kind)))
 
 
-def try_pages(tests):
+def try_pages(tests: Tests) -> None:
     """The manual pages name each word, and man shows them without a warning."""
     pages = {"smemu": manual.of_command(), "smemu-scripts": manual.of_scripts()}
     names = {name.upper() for name in verbs.SCRIPTS}
@@ -289,7 +293,7 @@ def try_pages(tests):
 PARTS = (try_install, try_again, try_root, try_user, try_table, try_shells, try_pages)
 
 
-def main():
+def main() -> int:
     words = argparse.ArgumentParser(description=__doc__.partition("\n\n")[0])
     words.add_argument("program", nargs="?", metavar="PROGRAM")
     smemu = pathlib.Path(words.parse_args().program or emulator.find()).resolve()

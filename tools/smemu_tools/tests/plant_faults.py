@@ -5,12 +5,15 @@
 Each is an edit of the assembly, as a compiler may get it wrong: clang-19 and ld.lld-19 are needed, and another clang may write another text, of which an
 edit does not apply. With FOLDER the programs stay there too. tools/smemu-tools fault-tests says what is to be told of each.
 """
+from __future__ import annotations
+
 import io
 import pathlib
 import subprocess
 import sys
 import tarfile
 import tempfile
+from typing import Any
 
 from smemu_tools import TOP, parser
 
@@ -20,9 +23,9 @@ CLANG = ["clang-19", "--target=aarch64-linux-gnu", "-ffreestanding", "-fno-pic",
 SME = ["-march=armv8.1-a+sme+sme-i16i64", "-mno-implicit-float"]
 SCALAR = ["-march=armv8.1-a", "-mgeneral-regs-only", "-fno-builtin"]
 # of each program what main is told; kernels has its own sum
-PROGRAMS = {"nested": [], "recurse": [], "callback": [], "tails": [], "kinds": [], "loops": ["-DOFF"], "chains": [], "signals": ["-DSETUP"], "kernels": []}
+PROGRAMS: dict[str, list[str]] = {"nested": [], "recurse": [], "callback": [], "tails": [], "kinds": [], "loops": ["-DOFF"], "chains": [], "signals": ["-DSETUP"], "kernels": []}
 # each fault: the function, the text there, which occurrence of it, and what stands in its place
-EDITS = {
+EDITS: dict[str, Any] = {
     "pointer-not-set": ("deep", "\tmsr\tTPIDR2_EL0, x23\n", 3, ""),
     "callee-does-not-save": ("priv", "\tbl\t__arm_tpidr2_save\n", 1, ""),
     "caller-does-not-restore": ("deep", "\tbl\t__arm_tpidr2_restore\n", 3, "\tnop\n"),
@@ -38,18 +41,18 @@ EDITS = {
 }
 
 
-def run(*words):
+def run(*words: Any) -> None:
     subprocess.run([str(word) for word in words], check=True)
 
 
-def assembly(name, level, work):
+def assembly(name: Any, level: Any, work: Any) -> Any:
     """The assembly that clang makes of a program's streaming part."""
     path = work / f"{name}.s"
     run(*CLANG, f"-{level}", "-mno-outline", *SME, "-S", CALLS / f"{name}.c", "-o", path)
     return path.read_text()
 
 
-def linked(name, level, text, program, work):
+def linked(name: Any, level: Any, text: Any, program: Any, work: Any) -> None:
     """Makes the program of this assembly."""
     (work / "edited.s").write_text(text)
     run(*CLANG, *SME, "-c", work / "edited.s", "-o", work / "edited.o")
@@ -59,7 +62,7 @@ def linked(name, level, text, program, work):
     run("ld.lld-19", "-static", "-z", "max-page-size=4096", "-o", program, *(work / it for it in ("start.o", "main.o", "edited.o", "za.o")))
 
 
-def planted(source, function, old, which, new):
+def planted(source: Any, function: Any, old: Any, which: Any, new: Any) -> Any:
     """The assembly with another text in the place of one occurrence of it in a function."""
     start = source.index(f"\n{function}:")
     end, at = source.index(".Lfunc_end", start), start
@@ -70,11 +73,11 @@ def planted(source, function, old, which, new):
     return source[:at] + new + source[at + len(old):]
 
 
-def main():
+def main() -> None:
     words = parser(__doc__)
     words.add_argument("folder", nargs="?", metavar="FOLDER")
     asked = words.parse_args()
-    with tempfile.TemporaryDirectory() as name, tarfile.open(STORED, "w:xz", preset=9) as stored:
+    with tempfile.TemporaryDirectory() as name, tarfile.open(STORED, "w:xz", preset=9) as stored:  # type: ignore[call-arg]
         work, folder = pathlib.Path(name), pathlib.Path(asked.folder or name)
         folder.mkdir(exist_ok=True)
         source = assembly("kernels", "O2", work)

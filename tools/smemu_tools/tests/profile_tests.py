@@ -6,6 +6,8 @@ PROGRAM is the emulator; where it is not given it is what ./smemu runs. How ofte
 with QEMU's log of execution where qemu-aarch64 and clang-19 are on the PATH; what the trace says is made good on the first registers and memory, which
 then have to be those of the report. callgrind_annotate and Chromium read what is written for them, where they are there.
 """
+from __future__ import annotations
+
 import collections
 import json
 import os
@@ -14,6 +16,7 @@ import re
 import shutil
 import subprocess
 import tempfile
+from typing import Any
 
 from smemu_tools import TOOL, TOP, parser
 from smemu_tools.tests import beside_tests
@@ -70,7 +73,7 @@ NEST_STACKS = {"_start": 1 + 3 * 4 + 7, "_start;loop": 3 * (2 * 4 + 1) + 2 * 5 +
 LINES = re.compile(r"^ +(\d+) +[\d.]+%  (.*)", re.MULTILINE)
 
 
-def name_of(text):
+def name_of(text: str) -> str:
     """A stack of a program without names, where a function is its address."""
     return ";".join(f"{BASE + 4 * PLACES[it]:016x}" for it in text.split(";"))
 
@@ -78,23 +81,23 @@ def name_of(text):
 class Profile:
     """What the script says of a program and its report."""
 
-    def __init__(self, tests, program, report, *words):
+    def __init__(self, tests: Tests, program: pathlib.Path, report: pathlib.Path, *words: int) -> None:
         self.tests, self.words = tests, (*PROFILE, program, report, *words)
 
-    def said(self, *words):
+    def said(self, *words: int | str) -> str:
         status, text = self.tests.run(*self.words, *words)
         self.tests.check(f"the status of {words}", (status, text if status else ""), (0, ""))
         return text
 
-    def rows(self, by):
+    def rows(self, by: str) -> dict[str, int]:
         """The names of a table and their counts."""
         return {name: int(count) for count, name in LINES.findall(self.said("--by", by, "--most", 0))}
 
-    def addresses(self):
+    def addresses(self) -> dict[int, int]:
         return {int(name[:16], 16): count for name, count in self.rows("address").items()}
 
 
-def sums(tests, program, report, *threads):
+def sums(tests: Tests, program: pathlib.Path, report: pathlib.Path, *threads: list[int]) -> None:
     """Each table and each file has as many instructions as the report, of one thread and of all."""
     there = [it.count for it in reports.read(report).threads]
     for thread in threads or [[]]:
@@ -108,13 +111,13 @@ def sums(tests, program, report, *threads):
         tests.check(f"the sum of the page of {program.name}", json.loads(page)[2], wanted)
 
 
-def own_cost(text):
+def own_cost(text: str) -> int:
     """The cost of all functions in a file of callgrind: of its lines with a cost all but those after a line `calls`."""
     lines = text.splitlines()
     return sum(int(line.split()[2]) for before, line in zip(lines, lines[1:]) if line.startswith("0x") and not before.startswith("calls="))
 
 
-def try_counts(tests):
+def try_counts(tests: Tests) -> None:
     """What follows from the source, and what was not executed."""
     program = tests.assemble("nest", NEST)
     report = tests.report(program, "nest")
@@ -142,8 +145,8 @@ def try_counts(tests):
                                  (deep, place(20)): (6, sum(inner - 8 * depth for depth in range(1, 7)))})
     if shutil.which("callgrind_annotate"):
         tests.path("nest.callgrind").write_text(text)
-        said = tests.run("callgrind_annotate", tests.path("nest.callgrind"))[1]
-        tests.check("callgrind_annotate", re.findall(r"([\d,]+) .*PROGRAM TOTALS", said), [f"{sum(NEST_COUNTS)}"])
+        printed = tests.run("callgrind_annotate", tests.path("nest.callgrind"))[1]
+        tests.check("callgrind_annotate", re.findall(r"([\d,]+) .*PROGRAM TOTALS", printed), [f"{sum(NEST_COUNTS)}"])
     sums(tests, program, report)
     # without a section table there is no listing, and what is executed is all that is known
     stripped = tests.path("bare.elf")
@@ -156,7 +159,7 @@ def try_counts(tests):
                 (2, "the program has no section table, so its instructions are not known before they are executed\n"))
 
 
-def try_signals(tests):
+def try_signals(tests: Tests) -> None:
     """The first instruction of a handler is counted at its place, and a handler is on the stack of what it interrupts."""
     source = (TOP / "examples/nested.s").read_text()
     for name, text in (("nested", source), ("unmasked", source.replace("    bl mask_second\n", ""))):
@@ -174,7 +177,7 @@ def try_signals(tests):
     tests.check("one handler within the other", any(line.count(f"{it:016x}") for it in firsts for line in stacks.splitlines() if line.count(";") > 1), True)
 
 
-def try_threads(tests):
+def try_threads(tests: Tests) -> None:
     program = tests.assemble("threads", (TOP / "examples/threads.s").read_text())
     report = tests.report(program, "threads", "--threads", 2, "--slice", 9, "--svl", 128)
     sums(tests, program, report, [0], [1], [])
@@ -187,7 +190,7 @@ def try_threads(tests):
     tests.check("another program", tests.run(*PROFILE, other, report), (9, "bad report: line 3: image\n"))
 
 
-def try_trace(tests):
+def try_trace(tests: Tests) -> None:
     """The changes of a trace, made good on the state before it, give the state after it."""
     for name, options in (("lost", ()), ("matmul", ()), ("nested", ("--slice", 13)), ("lazy", ()), ("transpose", ())):
         program = tests.assemble(name, (TOP / f"examples/{name}.s").read_text())
@@ -216,16 +219,16 @@ def try_trace(tests):
         now = tests.debug(program, report, [f"goto {high}", *(f"mem {page:#x} 4096" for page in pages)])
         then = tests.debug(program, report, [f"goto {low}", *(f"mem {page:#x} 4096" for page in pages)])
         for page, one, other in zip(pages, then, now):
-            held = bytearray.fromhex(one)
+            content = bytearray.fromhex(one)
             for at, byte in memory.items():
                 if page <= at < page + 4096:
-                    held[at - page] = byte
+                    content[at - page] = byte
             # a frame of a signal is told by its address alone
             if name != "nested":
-                tests.check(f"{name}: memory from {page:#x}", held.hex(), other)
+                tests.check(f"{name}: memory from {page:#x}", content.hex(), other)
 
 
-def try_lines(tests):
+def try_lines(tests: Tests) -> None:
     """Lines of a program of C, where clang is there: in the tables, in lcov's file and on the page."""
     if not shutil.which("clang-19") or not shutil.which("ld.lld-19"):
         return
@@ -258,7 +261,7 @@ def try_lines(tests):
                 [["idle short.c:2"], ["2-3, 7"]])
 
 
-def try_page(tests):
+def try_page(tests: Tests) -> None:
     """The page has each function and its own parts, and Chromium draws each stack as wide as it is."""
     program, report = tests.path("nest.elf"), tests.path("nest.report")
     text = Profile(tests, program, report).said("--page")
@@ -288,7 +291,7 @@ BESIDE = (("scalar", 1), ("scalar", 6), ("scalar", 12), ("vector", 1), ("vector"
 OPTIONS = {"scalar": ["-march=armv8.1-a", "-mgeneral-regs-only"], "vector": ["-march=armv8.1-a+sve2", "-mno-implicit-float", "-DINSTEAD"]}
 
 
-def try_beside_qemu(tests):
+def try_beside_qemu(tests: Tests) -> None:
     """The count of each address is that of QEMU's log, where QEMU and clang are there."""
     qemu = os.environ.get("QEMU") or shutil.which("qemu-aarch64")
     if not qemu or not shutil.which("clang-19") or not shutil.which("ld.lld-19"):
@@ -310,14 +313,14 @@ def try_beside_qemu(tests):
 class Tests(beside_tests.Tests):
     """Tests that ask `debug` too."""
 
-    def debug(self, program, report, lines):
+    def debug(self, program: pathlib.Path, report: pathlib.Path, lines: list[str]) -> list[str]:
         """What `debug` answers to the lines of a script."""
         script = self.path("asked.script")
         script.write_text("".join(f"{line}\n" for line in lines))
         return self.run(self.smemu, "debug", program, report, 0, script)[1].splitlines()
 
 
-def main():
+def main() -> Any:
     words = parser(__doc__)
     words.add_argument("program", nargs="?", metavar="PROGRAM")
     smemu = words.parse_args().program or emulator.find()

@@ -7,6 +7,8 @@ PROGRAM is the emulator; where it is not given it is what ./smemu runs. There ar
 another emulator in place of the interpreter, which is tools/smemu_tools/model/expected.py with all instructions that it knows: there a loop makes more turns. Each loop whose reports differ is
 printed with the lines that do; the status is 1 where one does, and the last such program and its reports are kept beside each other in a folder that is named.
 """
+from __future__ import annotations
+
 import argparse
 import concurrent.futures
 import difflib
@@ -16,10 +18,12 @@ import random
 import re
 import subprocess
 import tempfile
+from typing import Any
 
 
 from smemu_tools.model.elf import Segment, build, text_of
 from smemu_tools.model.expected import report
+from smemu_tools.rows import random_bytes
 from smemu_tools.rows.loop_rows import KnowsAllWords
 from smemu_tools.rows.word_steps import number, words
 from smemu_tools.user import emulator
@@ -43,16 +47,16 @@ SUMS = {name: (5, 16) for name in ("add", "adds", "sub", "subs", "and", "ands", 
 PRODUCTS = {name: (5, 16, 10) for name in ("madd", "msub", "smaddl", "smsubl", "umaddl", "umsubl")}
 ONES = {name: (5,) for name in ("rbit", "rev16", "rev32", "rev", "clz", "cls", "sbfm", "bfm", "ubfm")}
 NONE = {name: () for name in ("movz", "movn", "movk", "adr", "adrp")}
-READS = {**SUMS, **PRODUCTS, **ONES, **NONE}
+READS: dict[str, tuple[int, ...]] = {**SUMS, **PRODUCTS, **ONES, **NONE}
 COMPARES = {"ccmp": (5, 16), "ccmn": (5, 16)}
 ACCESSES = ("ldr", "ldrb", "ldrh", "ldrsb", "ldrsh", "ldrsw", "str", "strb", "strh", "ldur", "ldurb", "ldurh", "ldursb", "ldursh", "ldursw", "stur", "sturb", "sturh")
 
 
-def with_field(word, low, width, value):
+def with_field(word: int, low: int, width: int, value: int) -> int:
     return word & ~((1 << width) - 1 << low) | value << low
 
 
-def known_words():
+def known_words() -> dict[str, list[tuple[int, str]]]:
     """The words of the tables by their names, and those of vectors and predicates together."""
     known = {VECTORS: []}
     for word, text in words().items():
@@ -60,17 +64,17 @@ def known_words():
     return known
 
 
-def loaded(register, value):
+def loaded(register: int, value: int) -> list[int]:
     """MOVZ and MOVK that give a register a value."""
     parts = [(0xF2800000 if k else 0xD2800000) | k << 21 | (value >> 16 * k & 0xFFFF) << 5 | register for k in range(4)]
     return [parts[0], *(part for k, part in enumerate(parts) if k and value >> 16 * k & 0xFFFF)]
 
 
-def register(chance, several):
+def register(chance: random.Random, several: Any) -> int:
     return ZERO if chance.random() < 0.12 else chance.choice(several)
 
 
-def computation(chance, known):
+def computation(chance: random.Random, known: dict[str, list[tuple[int, str]]]) -> int:
     """An instruction of registers alone, with other registers and now and then another bit."""
     name = chance.choice([*READS, *COMPARES])
     # those whose last operand is a register and those with a number have one name
@@ -90,7 +94,7 @@ def computation(chance, known):
     return word
 
 
-def access(chance):
+def access(chance: random.Random) -> int:
     """A load or a store of one register or two, by an address that is mostly there."""
     size, operation = chance.randrange(4), chance.choice((0, 0, 1, 1, 1, 2, 3))
     base, other, target = chance.choice((*BASES, *BASES, ZERO)), chance.choice(INDICES), register(chance, WRITTEN)
@@ -110,14 +114,14 @@ def access(chance):
     return 0x18000000 | chance.randrange(3) << 30 | (chance.randrange(-6, 6) & 0x7FFFF) << 5 | target
 
 
-def shared_access(chance):
+def shared_access(chance: random.Random) -> int:
     """An ordered or atomic access, or a plain one, at X20, which is the shared region's."""
     target, source = register(chance, WRITTEN), register(chance, WRITTEN)
     kind = chance.choice((0xF9400000, 0xF9000000, 0xC8DFFC00, 0xC89FFC00, 0xC8A07C00, 0xF8208000, 0xF8200000, 0xF8201000, 0xF8202000, 0xF8203000))
     return kind | (source << 16 if kind & 0x3F200000 in (0x38200000, 0x08A00000) else 0) | 20 << 5 | target
 
 
-def vector(chance, known):
+def vector(chance: Any, known: Any) -> Any:
     """An instruction of vectors or predicates; the base of an access is one of ours."""
     word, text = chance.choice(known[VECTORS])
     if re.search(r"\[(x|sp)", text):
@@ -127,7 +131,7 @@ def vector(chance, known):
     return word
 
 
-def branch(chance, left):
+def branch(chance: Any, left: Any) -> Any:
     """A branch forwards, at most behind the loop's last instruction, of which so many are left."""
     distance, target = chance.randrange(1, left + 1), register(chance, (*WRITTEN, COUNTER))
     return chance.choice((0x54000000 | distance << 5 | chance.randrange(16), 0x34000000 | chance.randrange(2) << 31 | chance.randrange(2) << 24 | distance << 5 | target,
@@ -135,12 +139,12 @@ def branch(chance, left):
                           0x94000000 | distance))
 
 
-def far(chance, place, function):
+def far(chance: random.Random, place: int, function: int) -> int:
     """An instruction that leaves the page or comes back: BL to the function of the next page, BLR and BR by a register."""
     return chance.choice((0x94000000 | function - place, 0xD63F0000 | TARGETS[0] << 5, 0xD63F0000 | TARGETS[1] << 5))
 
 
-def body_of(chance, known, at, count, function):
+def body_of(chance: random.Random, known: dict[str, list[tuple[int, str]]], at: int, count: int, function: int) -> list[int]:
     """So many words of the loop, whose first stands at a place of the code."""
     found = []
     while len(found) < count:
@@ -166,7 +170,7 @@ def body_of(chance, known, at, count, function):
     return found[:count]
 
 
-def program(chance, known, most):
+def program(chance: random.Random, known: dict[str, list[tuple[int, str]]], most: int) -> tuple[bytes, dict[str, int]]:
     """A file of a loop with what stands before and behind it, and the options of its run."""
     # the loop begins anywhere in a page, so that it goes over its end now and then
     start, count, turns = chance.choice((0, 40, 900, 1010, 1016, 1020)), chance.randrange(2, 13), chance.choice((1, 2, 3, most // 4, most))
@@ -194,16 +198,16 @@ def program(chance, known, most):
         code[place] = 0xD65F03C0
     code[function] = chance.choice((0x91000400 | 3 << 5 | 3, 0xD65F03C0, 0x8B0000A5))
     flags = 7 if chance.random() < 0.3 else 5
-    file = build([Segment(CODE, text_of(code), flags=flags), Segment(DATA, chance.randbytes(2 * PAGE), flags=6)])[0]
+    file = build([Segment(CODE, text_of(code), flags=flags), Segment(DATA, random_bytes(chance, 2 * PAGE), flags=6)])[0]
     return file, {"vl": chance.choice((128, 128, 256, 512, 1024, 2048)), "svl": 256, "budget": chance.choice((40 * most, 40 * most, 700, 1001)), "slice": chance.choice((1000, 1000, 7, 1))}
 
 
-def run(smemu, path, options):
+def run(smemu: str, path: pathlib.Path, options: dict[str, int]) -> str:
     words = [word for key, value in options.items() for word in (f"--{key}", str(value))]
     return subprocess.run([smemu, "run", path, *words], stdin=subprocess.DEVNULL, stdout=subprocess.PIPE, timeout=SECONDS, text=True).stdout
 
 
-def compared(smemu, beside, seed, folder):
+def compared(smemu: str, beside: Any, seed: str, folder: pathlib.Path) -> tuple[str, list[Any]]:
     """The lines that differ of the reports of a loop."""
     chance = random.Random(seed)
     file, options = program(chance, known_words(), MOST_TURNS if beside else MOST_TURNS // 8)
@@ -221,7 +225,7 @@ def compared(smemu, beside, seed, folder):
     return stop, [f"{path}, {options}:", *lines[2:14]]
 
 
-def main():
+def main() -> int:
     asked = argparse.ArgumentParser(description=__doc__.partition("\n\n")[0])
     asked.add_argument("program", nargs="?")
     asked.add_argument("--beside", metavar="OTHER")

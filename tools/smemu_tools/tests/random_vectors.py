@@ -7,6 +7,8 @@ four workers; the same seed makes the same files. A word is one of the tables of
 state is made as in tools/smemu_tools/rows/word_steps.py. The interpreter is tools/smemu_tools/model/expected_answers.py. Each vector whose answers differ is printed with both of them; the status is 1
 where one does.
 """
+from __future__ import annotations
+
 import argparse
 import concurrent.futures
 import os
@@ -15,6 +17,7 @@ import random
 import re
 import subprocess
 import tempfile
+from typing import Any
 
 
 from smemu_tools.model.expected_answers import answer, read_line
@@ -24,7 +27,7 @@ from smemu_tools.user import emulator
 LENGTHS, LINES, SECONDS = (128, 256, 512, 1024, 2048), 1000, 300
 
 
-def vector(chance, known, vl, svl):
+def vector(chance: random.Random, known: list[tuple[int, str]], vl: int, svl: int) -> str:
     """A line of a word, with now and then other bits, and a state."""
     word, text = chance.choice(known)
     if chance.random() < 0.6:
@@ -37,7 +40,7 @@ def vector(chance, known, vl, svl):
     return line_of(word, state)
 
 
-def compared(smemu, seed):
+def compared(smemu: str, seed: str) -> Any:
     """The vectors of a file whose answers differ, with both."""
     chance, known = random.Random(seed), [*words().items()]
     vl, svl, workers = chance.choice(LENGTHS), chance.choice(LENGTHS), chance.choice((1, 2, 4))
@@ -54,7 +57,7 @@ def compared(smemu, seed):
     return [f"--vl {vl} --svl {svl}: {line}\n  wanted: {right}\n  got:    {got}" for line, right, got in zip(lines, wanted, given) if right != got]
 
 
-def main():
+def main() -> int:
     asked = argparse.ArgumentParser()
     asked.add_argument("program", nargs="?")
     asked.add_argument("--files", type=int, default=100)

@@ -12,6 +12,8 @@ and none where there is no compiler.
 A library of some lines of C, which gcc or clang makes in a temporary folder, is preloaded to refuse. The last line says how many runs there
 were; the status is 1 where one of them was wrong.
 """
+from __future__ import annotations
+
 import argparse
 import mmap
 import os
@@ -21,6 +23,7 @@ import struct
 import subprocess
 import sys
 import tempfile
+from typing import Any
 
 from smemu_tools.user import emulator
 
@@ -185,18 +188,18 @@ USAGE = 2
 class Run:
     """How a run ended, what it wrote, and how many growths it asked for; the status is None where it hangs."""
 
-    def __init__(self, status, written, growths):
+    def __init__(self, status: int, written: bytes, growths: int) -> None:
         self.status, self.written, self.growths = status, written, growths
 
 
-def compiler():
+def compiler() -> str:
     return shutil.which("gcc") or shutil.which("clang")
 
 
 class Refuser:
     """Runs the emulator in a folder, and refuses it growths."""
 
-    def __init__(self, program, folder, seconds):
+    def __init__(self, program: str, folder: pathlib.Path, seconds: int) -> None:
         self.program, self.folder, self.seconds = program, folder, seconds
         source = folder / "refuse.c"
         source.write_text(LIBRARY)
@@ -204,7 +207,7 @@ class Refuser:
         self.count = folder / "count"
         self.count.write_bytes(bytes(8))
 
-    def run(self, words, first=0, last=0):
+    def run(self, words: tuple[str, ...], first: int = 0, last: int = 0) -> Run:
         """A run that is refused the growths from the first to the last of these, counted from 1."""
         environment = {"LD_PRELOAD": str(self.folder / "refuse.so"), "REFUSE_COUNT": str(self.count),
                        "REFUSE_FIRST": str(first), "REFUSE_LAST": str(last)}
@@ -218,14 +221,14 @@ class Refuser:
                 status, written = None, expired.stdout or b""
             return Run(status, written, struct.unpack("<Q", count[:])[0])
 
-    def make(self, name, words):
+    def make(self, name: str, words: tuple[str, str] | tuple[str, ...]) -> None:
         """Puts what a command writes into a file."""
         made = self.run(words)
         if made.status != 0 or not made.growths:
             sys.exit(f"{name}: the emulator ends with {made.status}, after {made.growths} growths that are seen")
         (self.folder / name).write_bytes(made.written)
 
-    def make_files(self):
+    def make_files(self) -> None:
         for name, text in ("source", SOURCE), ("plan", PLAN), ("script", SCRIPT), ("vectors", VECTORS):
             (self.folder / name).write_text(text)
         self.make("program", CASES["asm"])
@@ -237,7 +240,7 @@ class Refuser:
         (self.folder / "checkpoint").write_bytes(self.run(CASES["ckpt"]).written)
 
 
-def fault(name, usual, run):
+def fault(name: str, usual: Run, run: Run) -> Any:
     """What is wrong with a run that was refused a growth, or None."""
     if run.status is None:
         return "hangs"
@@ -250,14 +253,14 @@ def fault(name, usual, run):
     return None
 
 
-def numbers(most, sample):
+def numbers(most: int, sample: int) -> Any:
     """The growths that are refused in turn, of so many: all, or a sample."""
     if not sample or most <= sample:
         return range(1, most + 1)
     return sorted({1 + at * (most - 1) // max(1, sample - 1) for at in range(sample)})
 
 
-def try_all(refuser, name, words, sample):
+def try_all(refuser: Refuser, name: str, words: tuple[str, ...], sample: int) -> tuple[int, int]:
     """Refuses each growth of a command, and prints what is wrong. Gives the number of runs, and of those that are wrong."""
     usual = refuser.run(words)
     if usual.status is None:
@@ -283,7 +286,7 @@ def try_all(refuser, name, words, sample):
     return runs, wrong
 
 
-def main():
+def main() -> int:
     parser = argparse.ArgumentParser(description=__doc__, formatter_class=argparse.RawDescriptionHelpFormatter)
     parser.add_argument("--seconds", type=float, default=60)
     parser.add_argument("--sample", type=int, default=0)

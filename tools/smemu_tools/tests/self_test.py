@@ -12,6 +12,8 @@ N parts run at once, as many as there are processors where it is not given. A fa
 is said: the rows of failing reads and writes, which the gate tries within the program, and what needs a tool that is not there. The last line is
 `N passed, N failed`; the status is 1 where something failed. SMEMU names the emulator.
 """
+from __future__ import annotations
+
 import argparse
 import concurrent.futures
 import hashlib
@@ -22,6 +24,7 @@ import shlex
 import subprocess
 import sys
 import tempfile
+from typing import Any, Callable, Iterator
 
 from smemu_tools import TOOL, TOP
 from smemu_tools.tests import doc_tests
@@ -40,28 +43,28 @@ SCRIPTS = ("script-tests", "beside-tests", "command-tests", "install-tests", "ho
 class Result:
     """How many checks passed, and of those that failed what to show; and what was not tried."""
 
-    def __init__(self):
+    def __init__(self) -> None:
         self.passed, self.failures, self.untried = 0, [], []
 
-    def check(self, is_right, lines):
+    def check(self, is_right: bool, lines: Callable[..., Any]) -> None:
         if is_right:
             self.passed += 1
         else:
             self.failures.append("\n".join(f"  {line}" if at else line for at, line in enumerate(lines())))
 
 
-def answer(smemu, words):
+def answer(smemu: str, words: list[str]) -> tuple[int, bytes]:
     """The status and the output of a command, in the folder of the data."""
     ended = subprocess.run([smemu, *words], cwd=DATA, stdin=subprocess.DEVNULL, stdout=subprocess.PIPE)
     return ended.returncode, ended.stdout
 
 
-def again(smemu, words):
+def again(smemu: str, words: list[str]) -> str:
     """The command that shows an answer again."""
     return f"again: cd {shlex.quote(str(DATA))} && {shlex.join([smemu, *words])}"
 
 
-def brief(status, text):
+def brief(status: int, text: bytes) -> str:
     """A status and the beginning of a text."""
     line = text.decode(errors="replace").replace("\n", "|")
     return f"status {status}, {line[:100]}{'..' if len(line) > 100 else ''} ({len(text)} bytes)"
@@ -70,7 +73,7 @@ def brief(status, text):
 # rows and changed files
 
 
-def try_rows(smemu, rows):
+def try_rows(smemu: str, rows: list[str]) -> Result:
     """Rows: a file, the status, and the words of a command, among which @ is the file; the answer is the file with .txt behind its name."""
     result = Result()
     for row in rows:
@@ -82,13 +85,13 @@ def try_rows(smemu, rows):
     return result
 
 
-def bytes_of(text):
+def bytes_of(text: str) -> bytes:
     """Bytes of a change: hexadecimal parts, each with how many times it stands there."""
     parts = [it.partition("*") for it in text.split("+")] if text != "-" else []
     return b"".join(bytes.fromhex(digits) * int(times or 1) for digits, _, times in parts)
 
 
-def after_changes(file, case):
+def after_changes(file: bytes, case: str) -> tuple[bytes, int]:
     """A file after the changes of a case, and the status."""
     words = case.split()
     for at in range(0, len(words) - 1, 3):
@@ -98,7 +101,7 @@ def after_changes(file, case):
     return file, int(words[-1])
 
 
-def is_text(text, file, thread, wanted):
+def is_text(text: bytes, file: bytes, thread: str, wanted: str) -> bool:
     """Tells whether a text is the one that a case says."""
     if wanted.startswith("#"):
         return wanted == f"#{len(text)} {hashlib.sha256(text).hexdigest()[:16]}"
@@ -108,7 +111,7 @@ def is_text(text, file, thread, wanted):
     return text == wanted.replace("|", "\n").encode()
 
 
-def try_cases(smemu, name, group, cases):
+def try_cases(smemu: str, name: str, group: str, cases: list[str]) -> Result:
     """Cases of a group: changes, a status, and past a tab the text."""
     result = Result()
     command, arrow, words = group.partition(" > ")
@@ -118,17 +121,17 @@ def try_cases(smemu, name, group, cases):
         file, _, words = group.partition(" ")
         base = (DATA / file).read_bytes()
     with tempfile.NamedTemporaryFile(prefix="smemu-") as changed:
-        words = [changed.name if word == "@" else word for word in words.split()]
+        given = [changed.name if word == "@" else word for word in words.split()]
         for case, text in (it.split("\t", 1) for it in cases):
-            file, status = after_changes(base, case)
-            pathlib.Path(changed.name).write_bytes(file)
-            found = answer(smemu, words)
-            is_right = found[0] == status and is_text(found[1], file, words[-1], text) == (name != DIFFERING)
-            result.check(is_right, lambda: failed_case(smemu, name, group, case, file, words, status, text, found))
+            content, status = after_changes(base, case)
+            pathlib.Path(changed.name).write_bytes(content)
+            found = answer(smemu, given)
+            is_right = found[0] == status and is_text(found[1], content, given[-1], text) == (name != DIFFERING)
+            result.check(is_right, lambda: failed_case(smemu, name, group, case, content, given, status, text, found))
     return result
 
 
-def failed_case(smemu, name, group, case, file, words, status, text, found):
+def failed_case(smemu: str, name: str, group: str, case: str, file: bytes, words: list[str], status: int, text: str, found: tuple[int, bytes]) -> list[str]:
     """What is shown of a case that failed; its file is kept."""
     with tempfile.NamedTemporaryFile(prefix="smemu-failed-", delete=False) as kept:
         kept.write(file)
@@ -138,7 +141,7 @@ def failed_case(smemu, name, group, case, file, words, status, text, found):
     return [f"changes: {name}: {group}: {case[:60]}", again(smemu, words), wanted, f"found:  {brief(*found)}"]
 
 
-def tasks_of_changes(smemu):
+def tasks_of_changes(smemu: str) -> Iterator[tuple[Callable[..., Any], str, str, str, list[str]]]:
     """The cases of all lists, some at a time."""
     for name in (*CHANGES, DIFFERING):
         group, cases = "", []
@@ -155,10 +158,10 @@ def tasks_of_changes(smemu):
 # words and texts
 
 
-def assembled(smemu, texts, result, name):
+def assembled(smemu: str, texts: list[str], result: Result, name: str) -> list[list[str]]:
     """The words and texts of the listing of a source with these lines; a line that is refused fails, and is None."""
     left = list(enumerate(texts))
-    found = [None] * len(texts)
+    found: list[Any] = [None] * len(texts)
     with tempfile.TemporaryDirectory() as folder:
         source, program = pathlib.Path(folder, "texts.s"), pathlib.Path(folder, "texts.elf")
         while left:
@@ -178,7 +181,7 @@ def assembled(smemu, texts, result, name):
     return found
 
 
-def try_words(smemu, name):
+def try_words(smemu: str, name: str) -> Result:
     """Lines with a word and its text, or of an alias one from which it is read."""
     result = Result()
     rows = [line.split("\t") for line in (DATA / name).read_text().splitlines()]
@@ -193,7 +196,7 @@ def try_words(smemu, name):
     return result
 
 
-def try_no_row(smemu):
+def try_no_row(smemu: str) -> Result:
     """Words that mean none: each is undefined where it is executed."""
     result, words = Result(), (DATA / "no_row.tsv").read_text().split()
     with tempfile.NamedTemporaryFile() as file:
@@ -207,7 +210,7 @@ def try_no_row(smemu):
     return result
 
 
-def try_faults(smemu):
+def try_faults(smemu: str) -> Result:
     """Lines of sources that are refused, each with its fault."""
     result = Result()
     with tempfile.NamedTemporaryFile(suffix=".s") as source:
@@ -224,7 +227,7 @@ def try_faults(smemu):
 # pages and scripts
 
 
-def try_page(smemu, page, there):
+def try_page(smemu: Any, page: Any, there: Any) -> Any:
     """The commands of a page."""
     result = Result()
     lines, _ = doc_tests.try_page(page, pathlib.Path(smemu), there)
@@ -238,7 +241,7 @@ def try_page(smemu, page, there):
     return result
 
 
-def try_script(smemu, name):
+def try_script(smemu: Any, name: Any) -> Any:
     """A script that tests others: its last line says how many checks there were, and how many failed."""
     result = Result()
     words = [sys.executable, str(TOOL), name, *[smemu] * (name != "script-tests")]
@@ -259,9 +262,9 @@ def try_script(smemu, name):
 # all
 
 
-def tasks(smemu, only):
+def tasks(smemu: Any, only: Any) -> Any:
     """Each part with what it tries, the longest first."""
-    def wanted(part):
+    def wanted(part: str) -> bool:
         return not only or part in only
 
     if wanted("scripts"):
@@ -279,7 +282,7 @@ def tasks(smemu, only):
         yield from ((try_no_row, smemu), (try_faults, smemu))
 
 
-def main():
+def main() -> int:
     parser = argparse.ArgumentParser(prog="smemu --test", description=__doc__, formatter_class=argparse.RawDescriptionHelpFormatter)
     parser.add_argument("--jobs", type=int, default=len(os.sched_getaffinity(0)), metavar="N")
     parser.add_argument("--only", action="append", choices=("rows", "changes", "words", "pages", "scripts"), metavar="PART")

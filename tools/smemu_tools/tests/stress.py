@@ -6,9 +6,12 @@ each thread's replay is its block, and the journals are parts of one history tha
 RUNS is how often on each number of cores, 50 if not given, and THREADS 6 (with many the search is long); PROGRAM is the emulator, by default that which
 ./smemu --build makes. The history is looked for here, by the rule of each operation alone, and none of it is taken from the emulator.
 """
+from __future__ import annotations
+
 import pathlib
 import subprocess
 import tempfile
+from typing import Any
 
 from smemu_tools import TOP, parser
 from smemu_tools.model.expected import OPERATIONS
@@ -20,19 +23,19 @@ ROUNDS = 40
 class Event:
     """An operation of a thread on a word, and its answer."""
 
-    def __init__(self, line):
+    def __init__(self, line: str) -> None:
         _, self.kind, place, *values = line.split(" ")
         self.word = ("pending" if self.kind in ("post", "poll") else "w", int(place))
         self.a, self.b, self.answer = (int(it, 16) for it in values)
 
-    def after(self, old):
+    def after(self, old: int) -> int | None:
         """The word after it, or None where it does not answer so on that word."""
         if self.answer != (0 if self.kind == "st" else old):
             return None
         return OPERATIONS[self.kind](old, self.a, self.b)
 
 
-def parse(report):
+def parse(report: str) -> tuple[list[list[Event]], dict[tuple[str, int], int]]:
     """The journals of a report and the words at its end that are not zero."""
     journals, words = [], {}
     for line in report.splitlines():
@@ -51,14 +54,14 @@ class Search:
     """Looks for a history of which the journals are parts. Where an event leaves its word, it is made at once: nothing is lost by it. Of
     those that change a word, the one is tried first whose thread adds to a word the soonest: what an addition answers tells its place."""
 
-    def __init__(self, journals):
+    def __init__(self, journals: list[list[Event]]) -> None:
         self.journals = journals
         self.next_add = [self.ranks(it) for it in journals]
         self.next_poll = [self.polls(it, ("pending", thread)) for thread, it in enumerate(journals)]
         self.failed = set()
 
     @staticmethod
-    def ranks(journal):
+    def ranks(journal: list[Event]) -> list[int]:
         """Of each event, what the next addition of its thread answers."""
         found, rank = [], 1 << 64
         for event in reversed(journal):
@@ -67,22 +70,23 @@ class Search:
         return found[::-1]
 
     @staticmethod
-    def polls(journal, word):
+    def polls(journal: list[Event], word: tuple[str, int]) -> list[int]:
         """Of each event, what the next poll of its thread answers, None past the last."""
-        found, answer = [None], None
+        found: list[Any] = [None]
+        answer = None
         for event in reversed(journal):
             answer = event.answer if event.word == word and event.kind == "poll" else answer
             found.append(answer)
         return found[::-1]
 
-    def is_open(self, event, at):
+    def is_open(self, event: Event, at: list[int]) -> bool:
         """A signal that is posted is among those of the next poll of that thread."""
         if event.kind != "post":
             return True
         answer = self.next_poll[event.word[1]][at[event.word[1]]]
         return answer is None or answer & event.a == event.a
 
-    def settle(self, at, words):
+    def settle(self, at: list[int], words: dict[tuple[str, int], int]) -> None:
         """Makes all events that leave their words."""
         moved = True
         while moved:
@@ -96,7 +100,7 @@ class Search:
                     at[thread] += 1
                     moved = True
 
-    def choices(self, at, words):
+    def choices(self, at: list[int], words: dict[tuple[str, int], int]) -> list[tuple[int, int, tuple[str, int], int]]:
         found = []
         for thread, journal in enumerate(self.journals):
             if at[thread] < len(journal):
@@ -106,7 +110,7 @@ class Search:
                     found.append((self.next_add[thread][at[thread]], thread, event.word, new))
         return sorted(found, reverse=True)
 
-    def words_at_end(self):
+    def words_at_end(self) -> dict[tuple[str, int], int] | None:
         """The words at the end of such a history that are not zero, or None where there is no history."""
         at, words, open_choices = [0] * len(self.journals), {}, []
         while True:
@@ -125,13 +129,13 @@ class Search:
             words[word] = new
 
 
-def said(program, *words):
+def said(program: pathlib.Path, *words: int | str) -> tuple[int, str]:
     """What the emulator writes, with its status."""
     done = subprocess.run([str(program), *map(str, words)], capture_output=True, text=True, timeout=600)
     return done.returncode, done.stdout
 
 
-def faults(program, elf, report_file, report, threads):
+def faults(program: pathlib.Path, elf: str, report_file: str, report: str, threads: int) -> list[Any]:
     """What is wrong with a report."""
     found = []
     journals, words = parse(report)
@@ -149,7 +153,7 @@ def faults(program, elf, report_file, report, threads):
     return found
 
 
-def main():
+def main() -> int:
     words = parser(__doc__)
     words.add_argument("runs", type=int, nargs="?", default=50, metavar="RUNS")
     words.add_argument("threads", type=int, nargs="?", default=6, metavar="THREADS")

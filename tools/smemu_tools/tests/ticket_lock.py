@@ -6,10 +6,13 @@ the shared words are what the rounds add up to.
 RUNS is 50 if not given; PROGRAM is the emulator, by default that which ./smemu --build makes. A thread that waits for its ticket makes an
 event with each look, and has at most 262,144 of them: where its core kept the processor, it would have none left before the others ran.
 """
+from __future__ import annotations
+
 import os
 import pathlib
 import subprocess
 import tempfile
+from typing import Any
 
 from smemu_tools import TOP, parser
 
@@ -18,7 +21,7 @@ THREADS = 4
 ROUNDS = 1_000
 
 
-def report_of(program, elf, cores):
+def report_of(program: pathlib.Path, elf: str, cores: int) -> str:
     """The report of a run, all of it on the first processor that this process may use."""
     processor = min(os.sched_getaffinity(0))
     words = [str(program), "run", elf, "--threads", str(THREADS), "--cores", str(cores)]
@@ -26,7 +29,7 @@ def report_of(program, elf, cores):
     return done.stdout
 
 
-def faults(report):
+def faults(report: str) -> list[Any]:
     """What is wrong with a report."""
     lines = report.splitlines()
     stops = [line for line in lines if line.startswith("stop ")]
@@ -37,7 +40,7 @@ def faults(report):
     return found
 
 
-def main():
+def main() -> int:
     words = parser(__doc__)
     words.add_argument("runs", type=int, nargs="?", default=50, metavar="RUNS")
     words.add_argument("program", type=pathlib.Path, nargs="?", default=TOP / "crates/smemu_cli/out/smemu_cli", metavar="PROGRAM")

@@ -6,11 +6,14 @@
 where the answer is none of `usage`, `bad report`, `bad plan`, `bad vectors` and `bad source`, or where a file is none that can be read again. Of a source
 it shows the lines at fault that come after the first, at most 20 in all: it asks again with each that was found taken out.
 """
+from __future__ import annotations
+
 import argparse
 import pathlib
 import re
 import subprocess
 import tempfile
+from typing import Any, Iterator
 
 from smemu_tools import parser
 from smemu_tools.user import reports, vectors
@@ -27,7 +30,7 @@ PLACES = {"THREAD": "0 to 31", "COUNT": "0 to 4294967295", "N": "1 to 20000"}
 MOST_BYTES, MOST_LINES = 64 << 20, 20
 
 
-def marked(text, column):
+def marked(text: str, column: int) -> str:
     """A line, with a mark below its column, which counts from 0."""
     plain = "".join(it if it.isprintable() or it == "\t" else "?" for it in text)
     return f"{plain}\n{''.join(it if it == chr(9) else ' ' for it in plain[:column]).ljust(column)}^"
@@ -36,14 +39,14 @@ def marked(text, column):
 # words
 
 
-def commands_of(text):
+def commands_of(text: str) -> tuple[dict[str, list[str]], dict[str, str]]:
     """Each command of the emulator's help with the words that follow it, and each option with its values."""
     commands, _, rest = text.partition("\n\n")[2].partition("\n\n")
     options = {name: values for name, values in re.findall(r"(?m)^  (--\w+) [A-Z]+ +.*?: (.*?)(?:;.*)?$", rest)}
     return {name: words.split() for name, words in re.findall(r"(?m)^  ([a-z][a-z-]*)((?: [A-Z]+)*)(?:  |$)", commands)}, options
 
 
-def usage_text(words, place, kind, help_text, options_of):
+def usage_text(words: list[str], place: int, kind: str, help_text: str, options_of: Any) -> str:
     """The words with a mark below the one at fault, and what may stand there."""
     commands, options = commands_of(help_text)
     shown = ["smemu", *(re.sub(r"\s", "?", it) or "''" for it in words)]
@@ -70,7 +73,7 @@ def usage_text(words, place, kind, help_text, options_of):
 # lines
 
 
-def shape_fault(line, shapes):
+def shape_fault(line: str, shapes: Any) -> tuple[int, str, str] | None:
     """The column of the word at fault of a line of a plan or of a script, its kind, and what may stand there; None where there is none."""
     words = line.split(" ")
     starts = [len(" ".join(words[:at])) + bool(at) for at in range(len(words) + 1)]
@@ -85,11 +88,11 @@ def shape_fault(line, shapes):
     return (starts[count], "extra", "nothing is to stand here") if len(words) > count else None
 
 
-def is_choice(wanted):
+def is_choice(wanted: Any) -> bool:
     return isinstance(wanted, tuple) and isinstance(wanted[0], str)
 
 
-def fits(word, wanted):
+def fits(word: str, wanted: Any) -> bool:
     if isinstance(wanted, str):
         return bool(re.fullmatch(wanted, word))
     if is_choice(wanted):
@@ -98,7 +101,7 @@ def fits(word, wanted):
     return bool(re.fullmatch(NUMBER, word)) and least <= int(word) <= most
 
 
-def said_of(wanted):
+def said_of(wanted: Any) -> str:
     if isinstance(wanted, str):
         return "an address, as 0x400000,"
     if is_choice(wanted):
@@ -107,7 +110,7 @@ def said_of(wanted):
     return f"a number from {least} to {most}"
 
 
-def report_fault(name, number, kind):
+def report_fault(name: str, number: int, kind: str) -> str:
     """What is wrong with a line of a report, as far as it is known."""
     if kind == "nothread":
         return "the report has no such thread"
@@ -120,7 +123,7 @@ def report_fault(name, number, kind):
     return "the report is of another program" if kind == "image" else f"a line of the part `{kind}` is expected here"
 
 
-def file_text(words, said):
+def file_text(words: list[str], said: str) -> str:
     """The line of a file that is refused, with a mark, and why."""
     sort, number, kind = re.match(r"bad (report|plan|vectors): line (\d+)(?:: (\w+))?", said).groups()
     name = words[{"report": 2, "plan": 2 if words[0] == "sim" else 4, "vectors": 1}[sort]]
@@ -143,7 +146,7 @@ def file_text(words, said):
 # sources
 
 
-def more_lines(smemu, name):
+def more_lines(smemu: str, name: str) -> Iterator[str]:
     """Of a source that is refused the other lines that are at fault: each is found with those before it taken out, but for their labels."""
     path = pathlib.Path(name)
     if not path.is_file() or path.stat().st_size > MOST_BYTES:
@@ -171,7 +174,7 @@ def more_lines(smemu, name):
             lines[number - 1] = label[0] if label else b""
 
 
-def main():
+def main() -> None:
     asked_for = parser(__doc__)
     asked_for.add_argument("program", metavar="PROGRAM")
     asked_for.add_argument("words", nargs=argparse.REMAINDER, metavar="WORD", help="the words of the command that ended")

@@ -3,7 +3,10 @@
 Each BL and BLR is followed to its return: the first later BR or RET that leads to the address after it with the SP of the call, within the same handler.
 smemu za-calls shows what is found, beside what it says itself of ZA over each call.
 """
+from __future__ import annotations
+
 import re
+from typing import Any, Callable, Iterator
 
 from smemu_tools.user import counted
 
@@ -31,25 +34,25 @@ MOST = 400_000
 class State:
     """The registers at a count."""
 
-    def __init__(self, lines):
+    def __init__(self, lines: list[str]) -> None:
         self.held = dict(line.rsplit(" ", 1) for line in lines)
 
-    def number(self, name):
+    def number(self, name: str) -> int:
         return int(self.held.get(name, "0"), 16)
 
     @property
-    def is_on(self):
+    def is_on(self) -> bool:
         return self.held["svcr"] in ("2", "3")
 
     @property
-    def mode(self):
+    def mode(self) -> bool:
         return self.held["svcr"] in ("1", "3")
 
 
 class Call:
     """A call that is open: its count, its address, where it went, and the state before it."""
 
-    def __init__(self, number, count, address, target, state):
+    def __init__(self, number: int, count: int, address: int, target: int, state: State) -> None:
         self.number, self.count, self.address, self.target, self.state = number, count, address, target, state
         self.key = (address + 4) % 2 ** 64, state.number("sp")
         self.pointer = state.number("tpidr2") if state.is_on else 0
@@ -59,7 +62,7 @@ class Call:
 class Debt:
     """A call that was made with ZA dormant and came back: the caller is to clear TPIDR2_EL0, and to restore ZA if it was saved, before it uses ZA."""
 
-    def __init__(self, call, is_saved, at):
+    def __init__(self, call: Call, is_saved: bool, at: int) -> None:
         self.call, self.is_saved, self.at = call, is_saved, at
         self.younger, self.is_cleared = 0, False
 
@@ -67,31 +70,32 @@ class Debt:
 class Fault:
     """A call that is at fault: its kind, the count and the address at which that is told, and what is at fault."""
 
-    def __init__(self, kind, call, count, address, what=""):
+    def __init__(self, kind: str, call: Call, count: int, address: int, what: str = "") -> None:
         self.kind, self.call, self.count, self.address, self.what = kind, call, count, address, what
 
 
 class Level:
     """The calls that are open in one handler, or outside of all, by their keys, and what they owe."""
 
-    def __init__(self):
+    def __init__(self) -> None:
         self.open, self.debts = {}, []
 
 
 class Checker:
     """Follows the calls of a thread, and finds those at fault."""
 
-    def __init__(self, thread, block, texts, name_of, follows_vectors):
+    def __init__(self, thread: Any, block: Any, texts: dict[int, str], name_of: Callable[..., Any], follows_vectors: Callable[..., Any]) -> None:
         self.thread, self.block, self.texts, self.name_of, self.follows_vectors = thread, block, texts, name_of, follows_vectors
         self.signals = counted.Signals(thread, block, texts)
-        self.faults, self.levels, self.frames, self.number, self.left = [], [Level()], {}, 0, None
+        self.faults, self.levels, self.frames, self.number = [], [Level()], {}, 0
+        self.left: int | None = None
 
     # what happened, in order
 
-    def hits(self, pattern, kind):
+    def hits(self, pattern: re.Pattern, kind: int) -> list[tuple[int, int, int]]:
         return [(count, kind, address) for address, text in self.texts.items() if pattern.match(text) for count in self.thread.all_hits(address)]
 
-    def events(self):
+    def events(self) -> list[tuple[int, int, int]]:
         """The counts of calls, returns and deliveries, and of what touches ZA if some call is made with ZA dormant."""
         found = self.hits(CALL, CALLS) + self.hits(BACK, BACKS)
         if len(found) > MOST:
@@ -110,7 +114,7 @@ class Checker:
         found += [(count, RETURN, 0) for count in self.signals.returns]
         return sorted(found, key=lambda it: (it[0], it[1] != DELIVERY))
 
-    def states(self, events):
+    def states(self, events: Any) -> Iterator[tuple[int, int, int, list[State]]]:
         """Each event with the states that it needs: the one before a call, a return or a use, and the one after a return."""
         for at in range(0, len(events), PART):
             part = events[at:at + PART]
@@ -124,7 +128,7 @@ class Checker:
                         held.append(State(lines))
                 yield count, kind, address, held
 
-    def asked(self, count, kind):
+    def asked(self, count: int, kind: int) -> list[str]:
         # where a handler begins its registers are shown after its first instruction
         first = count + (count in self.signals.deliveries)
         if kind == CALLS:
@@ -133,7 +137,7 @@ class Checker:
             return [f"goto {first}", "regs", f"goto {count + 1}", "regs"]
         return []
 
-    def check(self):
+    def check(self) -> list[Fault]:
         """Follows all calls. Gives the faults, in order of their counts."""
         for count, kind, address, states in self.states(self.events()):
             level = self.levels[-1]
@@ -159,13 +163,13 @@ class Checker:
                 self.tell("not finished", debt.call, self.thread.end, self.thread.state(self.thread.end).pc)
         return sorted(self.faults, key=lambda it: (it.call.count, it.count))
 
-    def tell(self, kind, call, count, address, what=""):
+    def tell(self, kind: str, call: Call, count: int, address: int, what: str = "") -> Any:
         if not self.name_of(call.target).startswith(OUTLINED):
             self.faults.append(Fault(kind, call, count, address, what))
 
     # calls
 
-    def call(self, level, count, address, state):
+    def call(self, level: Level, count: int, address: int, state: State) -> None:
         """A call: the restore of a save, or a use of ZA by whoever saved it."""
         self.number += 1
         name, operand = self.texts[address].split()[:2]
@@ -188,7 +192,7 @@ class Checker:
             self.read_block(call, any(it.pointer == call.pointer for it in level.open.values()))
         level.open[call.key] = call
 
-    def is_restore_in_order(self, level, call):
+    def is_restore_in_order(self, level: Level, call: Call) -> bool:
         """Tells whether a restore is made with ZA on, of a block to which ZA was saved."""
         if not call.state.is_on:
             self.tell("restored with ZA off", call, call.count, call.address)
@@ -198,7 +202,7 @@ class Checker:
             return False
         return True
 
-    def read_block(self, call, is_passed_on):
+    def read_block(self, call: Call, is_passed_on: bool) -> Any:
         """Looks at the block of a call that is made with ZA dormant: it is at fault where it is set up, not where a callee passes it on."""
         rows, place = self.thread.rows, call.pointer
         data = self.thread.memory(call.count, place, 16)
@@ -218,7 +222,7 @@ class Checker:
             self.tell("few slices", call, call.count, call.address, f"{slices} of {rows}")
         return None
 
-    def leave(self, level, call):
+    def leave(self, level: Level, call: Call) -> None:
         """Takes a call from those that are open."""
         del level.open[call.key]
         for debt in list(level.debts):
@@ -229,7 +233,7 @@ class Checker:
 
     # returns
 
-    def back(self, level, count, address, before, state):
+    def back(self, level: Level, count: int, address: int, before: State, state: State) -> None:
         """A BR or RET, with the states before it and after it."""
         place = state.number("pc")
         call = level.open.get((place, state.number("sp")))
@@ -246,7 +250,7 @@ class Checker:
         self.leave(level, call)
         self.judge(level, call, count + 1, place, state)
 
-    def judge(self, level, call, count, place, state):
+    def judge(self, level: Level, call: Call, count: int, place: int, state: State) -> None:
         """Compares the state after a call's return with the one before it."""
         old = call.state
         if old.mode != state.mode:
@@ -271,16 +275,16 @@ class Checker:
     # debts
 
     @staticmethod
-    def current(level):
+    def current(level: Level) -> list[Debt]:
         """What the function that runs owes."""
         return [debt for debt in level.debts if not debt.younger]
 
-    def is_back(self, debt, count):
+    def is_back(self, debt: Debt, count: int) -> bool:
         """Tells whether ZA is at a count as it was before the call, as many slices as the block says."""
         one, other = self.thread.za(debt.call.count), self.thread.za(count)
         return all(one.get(row, None) == other.get(row, None) for row in range(debt.call.slices))
 
-    def decide(self, level, debt, count, address):
+    def decide(self, level: Level, debt: Debt, count: int, address: int) -> None:
         """ZA is used: it is to be back, and TPIDR2_EL0 to be cleared."""
         level.debts.remove(debt)
         if debt.is_saved and not self.is_back(debt, count):
@@ -288,7 +292,7 @@ class Checker:
         elif not debt.is_cleared:
             self.tell("not cleared", debt.call, count, address)
 
-    def touch(self, level, count, address, is_use):
+    def touch(self, level: Level, count: int, address: int, is_use: bool) -> None:
         """An instruction that uses ZA, or writes it: whoever writes what is new gives up what was saved."""
         for debt in self.current(level):
             if is_use:
@@ -297,12 +301,12 @@ class Checker:
                 level.debts.remove(debt)
 
 
-def value(state, name, length):
+def value(state: State, name: str, length: int | None) -> str:
     """The first digits of a vector or predicate, without zeros at their end."""
     return state.held.get(name, "")[:length].rstrip("0")
 
 
-def lines_of(faults, known):
+def lines_of(faults: Any, known: Any) -> Iterator[str]:
     """A line for each place of calls and each kind of fault."""
     by_place = {}
     for fault in faults:

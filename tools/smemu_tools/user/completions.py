@@ -5,12 +5,15 @@
 The commands, the scripts and the words of the wrapper are those of `smemu --help`, and the options of
 each are those of `smemu VERB --help`: a word that no help has is not offered, and each that one has is.
 """
+from __future__ import annotations
+
 import argparse
 import collections
 import functools
 import os
 import re
 import subprocess
+from typing import Any
 
 from smemu_tools import TOP
 from smemu_tools.user import execute
@@ -23,14 +26,14 @@ Verb = collections.namedtuple("Verb", "name text options")
 Option = collections.namedtuple("Option", "name value text values")
 
 
-def asked(*words):
+def asked(*words: str) -> str:
     """What the wrapper says, of a script with each option in one line."""
     said = subprocess.run([TOP / "smemu", *words], stdin=subprocess.DEVNULL, stdout=subprocess.PIPE,
                           check=True, text=True, env={**os.environ, "COLUMNS": "10000"})
     return said.stdout
 
 
-def entries(text):
+def entries(text: str) -> list[list[str]]:
     """Each line of a help that stands for a word or an option: what stands there, and what it is."""
     found = []
     for line in text.split("\n"):
@@ -43,7 +46,7 @@ def entries(text):
     return found
 
 
-def values_of(value, text):
+def values_of(value: str, text: str) -> list[str]:
     """The values that an option may have, if they are few."""
     if value.startswith("{"):
         return value[1:-1].split(",")
@@ -51,14 +54,14 @@ def values_of(value, text):
     return re.findall(r"\d+", numbers[0]) if numbers else []
 
 
-def options_of(verb):
+def options_of(verb: str) -> list[Option]:
     """The options that the help of a word shows, but for that help."""
     found = [it for it in entries(asked(verb, "--help")) if it[0].startswith("--") and it[0] != "--help"]
     return [Option(name, value or None, text, values_of(value, text)) for name, value, text in found]
 
 
 @functools.lru_cache()
-def table():
+def table() -> list[Verb]:
     """All words that may stand first, each with its options."""
     text = asked("--help")
     parts = [part for part in text.split("\n\n") if not part.startswith(("options", "statuses", "what"))]
@@ -74,11 +77,11 @@ def table():
     return [Verb(name, text, made.get(name, [])) for name, text in words]
 
 
-def quoted(text):
+def quoted(text: str) -> str:
     return "'" + text.replace("'", "'\\''") + "'"
 
 
-def by_values(verbs):
+def by_values(verbs: list[Verb]) -> list[tuple[str, str]]:
     """The values of options that have few, each with a pattern of the words after which they stand."""
     sorts = collections.defaultdict(list)
     for verb, option in ((verb, option) for verb in verbs for option in verb.options if option.values):
@@ -106,7 +109,7 @@ complete -o bashdefault -o default -F _smemu smemu
 """
 
 
-def bash(verbs):
+def bash(verbs: list[Verb]) -> str:
     values = "".join(f"        {pattern}) words={quoted(values)} ;;\n" for values, pattern in by_values(verbs))
     options = "".join(f"            {it.name}) words={quoted(' '.join(option.name for option in it.options))} ;;\n"
                       for it in verbs if it.options)
@@ -134,12 +137,12 @@ fi
 """
 
 
-def described(items, left):
+def described(items: Any, left: str) -> str:
     """A line for each word with what it is."""
     return "".join(f"{left}{quoted(it.name + (':' + it.text if it.text else ''))}\n" for it in items)
 
 
-def zsh(verbs):
+def zsh(verbs: list[Verb]) -> str:
     values = "".join(f"    {pattern}) compadd {values}; return ;;\n" for values, pattern in by_values(verbs))
     options = "".join(f"    {it.name}) found=(\n{described(it.options, ' ' * 8)}        ) ;;\n"
                       for it in verbs if it.options)
@@ -157,7 +160,7 @@ end
 """
 
 
-def fish(verbs):
+def fish(verbs: list[Verb]) -> str:
     said = [FISH + f"complete -c smemu -n '__smemu_is --completions' -f -a '{' '.join(SHELLS)}'"]
     escaped = lambda text: "'" + text.replace("\\", "\\\\").replace("'", "\\'") + "'"
     for verb in verbs:
@@ -169,12 +172,12 @@ def fish(verbs):
     return "\n".join(said) + "\n"
 
 
-def written(shell, verbs):
+def written(shell: str, verbs: list[Verb]) -> str:
     """The completions for a shell."""
     return {"bash": bash, "zsh": zsh, "fish": fish}[shell](verbs)
 
 
-def main():
+def main() -> int:
     words = argparse.ArgumentParser(prog="smemu --completions", description=__doc__.partition("\n\n")[0])
     words.add_argument("shell", choices=SHELLS)
     print(written(words.parse_args().shell, table()), end="")

@@ -2,11 +2,14 @@
 
 SMEMU in the environment names it; else it is the program that ./smemu runs here, without the wrapper's own tenth of a second.
 """
+from __future__ import annotations
+
 import os
 import signal
 import subprocess
 import sys
 import tempfile
+from typing import Any, Callable
 
 from smemu_tools import TOP
 from smemu_tools.user import reports
@@ -18,7 +21,7 @@ NOT_ALL = 3
 class Refused(Exception):
     """What the emulator says in the place of an answer, and its status."""
 
-    def __init__(self, text, status):
+    def __init__(self, text: str, status: int) -> None:
         super().__init__(text)
         self.status = status
 
@@ -27,7 +30,7 @@ class Interrupted(Exception):
     """The call was given up, since nobody waits for it any longer."""
 
 
-def find():
+def find() -> str:
     """The emulator's path."""
     if os.environ.get("SMEMU"):
         return os.environ["SMEMU"]
@@ -38,7 +41,7 @@ def find():
     return asked.stdout.rstrip("\n")
 
 
-def call(words, given=b"", is_over=None):
+def call(words: list[Any], given: bytes = b"", is_over: Callable[..., Any] | None = None) -> bytes:
     """What the emulator writes for these words, of which /dev/stdin is a file with `given`, or Refused. Where `is_over` comes to say so, Interrupted."""
     with tempfile.NamedTemporaryFile(prefix="smemu-") as source:
         # a name of its own, since /dev/stdin leads through /proc, which a root may lack
@@ -53,7 +56,7 @@ def call(words, given=b"", is_over=None):
     return written
 
 
-def output_of(process, is_over):
+def output_of(process: subprocess.Popen[Any], is_over: Callable[..., Any] | None) -> bytes:
     """What a process writes until it ends."""
     while True:
         try:
@@ -68,7 +71,7 @@ def output_of(process, is_over):
             raise
 
 
-def end_with(main):
+def end_with(main: Callable[..., Any]) -> None:
     """Ends the script with the status of its main function; a refusal is told by its own line, with its status, and a closed pipe is no fault."""
     try:
         status = main()

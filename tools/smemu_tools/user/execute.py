@@ -9,6 +9,8 @@ words after the program are refused, since a guest has no arguments. A build sys
 The outputs of several threads stand one after the other, and the status is that of the first thread whose status is not 0. Where a thread does not
 exit, or nothing is run, it is 125, and on standard error stands each such thread with its stop, or the refusal. SMEMU may name the emulator.
 """
+from __future__ import annotations
+
 import os
 import re
 import signal
@@ -27,7 +29,7 @@ class NoWords(Exception):
     """Words that are at fault, which have the status of a program that is not run."""
 
 
-def parse(words):
+def parse(words: list[str]) -> tuple[str | None, list[str]]:
     """The program, and the options with their values in the order in which they stand before it and after it."""
     program, options, rest = None, [], list(words)
     while rest:
@@ -49,7 +51,7 @@ def parse(words):
     return program, options
 
 
-def run(words):
+def run(words: list[str]) -> tuple[str, int]:
     """What the emulator writes of these words after `run`, and its status."""
     try:
         # the wrapper's own words are for a person at a terminal
@@ -59,7 +61,7 @@ def run(words):
     return ended.stdout.decode(errors="replace"), ended.returncode
 
 
-def main():
+def main() -> int:
     # where it is interrupted, or its output is closed, it ends as other programs do
     for name in (signal.SIGINT, signal.SIGPIPE):
         signal.signal(name, signal.SIG_DFL)

@@ -15,6 +15,8 @@ What goes where:
 No file there names the folder, so it may be packed, and unpacked elsewhere. An installation that stands
 there already is replaced; a file of that name that none has put there is not, and nothing is installed.
 """
+from __future__ import annotations
+
 import argparse
 import contextlib
 import os
@@ -22,6 +24,7 @@ import pathlib
 import shutil
 import subprocess
 import sys
+from typing import Any
 
 from smemu_tools import TOOL, TOP
 from smemu_tools.user import completions, emulator, manual
@@ -37,10 +40,10 @@ class Fault(Exception):
     """What keeps a folder as it is."""
 
 
-def contents(program):
+def contents(program: pathlib.Path) -> dict[str, Any]:
     """Each file of an installation with what it is: bytes, a file that is copied, or the target of a link."""
     verbs = completions.table()
-    copied = {f"{HOME}/smemu": TOP / "smemu", f"{HOME}/smemu_cli": program}
+    copied: dict[str, Any] = {f"{HOME}/smemu": TOP / "smemu", f"{HOME}/smemu_cli": program}
     copied[f"{HOME}/tools/smemu-tools"] = TOOL
     package = TOP / "tools" / "smemu_tools"
     scripts = [*package.glob("*.py"), *(package / "user").glob("*.py"), *(package / "user" / "page").iterdir()]
@@ -53,7 +56,7 @@ def contents(program):
     return {**copied, **made, **links}
 
 
-def listed(prefix):
+def listed(prefix: pathlib.Path) -> list[str]:
     """The names in an installation's list, folders that it made with a slash behind them."""
     try:
         return (prefix / LIST).read_text().splitlines()
@@ -61,13 +64,13 @@ def listed(prefix):
         return []
 
 
-def folders_to_make(prefix, names):
+def folders_to_make(prefix: pathlib.Path, names: list[str]) -> list[pathlib.Path]:
     """The folders above these files that are not there, each behind the one that holds it."""
     above = {parent for name in names for parent in (prefix / name).parents}
     return sorted(it for it in above if not it.exists())
 
 
-def put(path, content):
+def put(path: pathlib.Path, content: bytes | pathlib.Path | str) -> None:
     """Puts a file in place at once, as those that start it meanwhile need it."""
     new = path.with_name(f"{path.name}.new")
     with contextlib.suppress(FileNotFoundError):
@@ -82,7 +85,7 @@ def put(path, content):
     new.replace(path)
 
 
-def install(prefix, program):
+def install(prefix: pathlib.Path, program: pathlib.Path) -> int:
     files, before = contents(program), listed(prefix)
     foreign = [name for name in files if os.path.lexists(prefix / name) and name not in before]
     if foreign:
@@ -100,7 +103,7 @@ def install(prefix, program):
     return len(files) + 1
 
 
-def remove(prefix, names):
+def remove(prefix: pathlib.Path, names: list[str]) -> None:
     """Takes away files, and then folders where they are empty."""
     for name in names:
         if not name.endswith("/"):
@@ -112,7 +115,7 @@ def remove(prefix, names):
                 (prefix / name).rmdir()
 
 
-def uninstall(prefix):
+def uninstall(prefix: pathlib.Path) -> int:
     names = listed(prefix)
     if not names:
         raise Fault(f"there is no installation in {prefix}: it has no {LIST}")
@@ -120,14 +123,14 @@ def uninstall(prefix):
     return sum(not name.endswith("/") for name in names)
 
 
-def say_paths(prefix):
+def say_paths(prefix: pathlib.Path) -> None:
     """Says where a shell does not look."""
     folders = [pathlib.Path(it).resolve() for it in os.environ.get("PATH", "").split(os.pathsep) if it]
     if (prefix / "bin").resolve() not in folders:
         print(f"PATH does not name {prefix / 'bin'}, where the command is")
 
 
-def main():
+def main() -> int:
     words = argparse.ArgumentParser(prog="smemu", description=__doc__, formatter_class=argparse.RawDescriptionHelpFormatter)
     words.add_argument("what", choices=("install", "uninstall"))
     words.add_argument("prefix", nargs="?", type=pathlib.Path, metavar="PREFIX")

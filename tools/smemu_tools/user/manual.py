@@ -5,11 +5,14 @@ what the help of each says.
 
 `./smemu --install` installs both. SMEMU may name the emulator whose help it is.
 """
+from __future__ import annotations
+
 import argparse
 import os
 import re
 import subprocess
 import sys
+from typing import Any, Iterator
 
 from smemu_tools import TOOL, TOP
 from smemu_tools import verbs
@@ -17,13 +20,13 @@ from smemu_tools import verbs
 SMEMU = os.environ.get("SMEMU") or str(TOP / "smemu")
 
 
-def plain(text):
+def plain(text: str) -> str:
     """A text as it stands in a page: what would be an escape or a request is not."""
     text = text.replace("\\", "\\e").replace("-", "\\-")
     return re.sub(r"^([.'])", r"\\&\1", text)
 
 
-def formatted(text):
+def formatted(text: str) -> str:
     """A line of Markdown: code is bold, and of a link its words stand, with the page that it leads to."""
     text = re.sub(r"\[([^]]*)\]\(#[^)]*\)", r"\1", text)
     text = re.sub(r"\[([^]]*)\]\((?:\.\./)*([^)#]*)[^)]*\)", lambda it: it[1] if it[1].endswith(it[2]) else f"{it[1]} ({it[2]})", text)
@@ -31,11 +34,11 @@ def formatted(text):
     return "".join(rf"\fB{plain(part)}\fR" if odd % 2 else plain(part) for odd, part in enumerate(parts) if part)
 
 
-def cells(row):
+def cells(row: str) -> list[str]:
     return [cell.strip() for cell in row.strip().strip("|").split(" | ")]
 
 
-def table(rows):
+def table(rows: list[str]) -> Iterator[str]:
     """A table of two columns is a list of tags with what they are; a wider one is laid out by tbl."""
     head, body = cells(rows[0]), [cells(row) for row in rows[2:]]
     if len(head) == 2:
@@ -50,7 +53,7 @@ def table(rows):
     yield ".TE"
 
 
-def page(text):
+def page(text: str) -> Iterator[str]:
     """The lines of a page of Markdown: headings, paragraphs, tables and what is shown as it is."""
     for block in re.split(r"\n\n+", text.strip()):
         lines = block.split("\n")
@@ -66,18 +69,18 @@ def page(text):
             yield from (formatted(re.sub(r"^- ", "* ", line.strip())) for line in lines)
 
 
-def head(name, text):
+def head(name: str, text: str) -> list[str]:
     """What a page begins with: the program's version, its name, and what it does."""
     version = said(SMEMU, "--version").strip()
     return ["'\\\" t", f'.TH {name.upper()} 1 "" "{version}"', ".SH NAME", f"{name} \\- {plain(text)}"]
 
 
-def said(*words):
+def said(*words: str) -> str:
     environment = {**os.environ, "COLUMNS": "80"}
     return subprocess.run(words, check=True, stdout=subprocess.PIPE, text=True, env=environment).stdout
 
 
-def of_command():
+def of_command() -> str:
     """The page of the command."""
     first, _, rest = said(SMEMU, "--help").partition("\n\n")
     words = re.findall(r"^  (\S+(?: [A-Z]+)*)", rest.partition("\n\n")[0], re.M)
@@ -89,7 +92,7 @@ def of_command():
     return "\n".join(lines) + "\n"
 
 
-def of_scripts():
+def of_scripts() -> str:
     """The page of the scripts: what the help of each says."""
     lines = [*head("smemu-scripts", "the words of smemu that are scripts"), ".SH DESCRIPTION",
              "These words of", r"\fBsmemu\fR(1)", "are scripts, which ask its commands. No theorem covers them."]
@@ -100,7 +103,7 @@ def of_scripts():
     return "\n".join(lines) + "\n"
 
 
-def main():
+def main() -> Any:
     words = argparse.ArgumentParser(description=__doc__.partition("\n\n")[0])
     words.add_argument("--scripts", action="store_true", help="the page of the scripts")
     print(of_scripts() if words.parse_args().scripts else of_command(), end="")

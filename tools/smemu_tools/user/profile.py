@@ -11,12 +11,15 @@ All threads are counted together, or the one that is named. Without --by it is t
 --callgrind a file for KCachegrind or callgrind_annotate, --page a page with a flame graph and the source lines.
 --trace shows the instructions of one thread from a count to another, each with what it changed. SMEMU may name the emulator.
 """
+from __future__ import annotations
+
 import argparse
 import collections
 import os
 import pathlib
 import re
 import struct
+from typing import Any, Callable, Iterator
 
 from smemu_tools.user import counted, emulator, places, profile_page, progress, reports, traced
 
@@ -24,7 +27,7 @@ MOST = 20
 NO_LINE = "no line"
 
 
-def named_functions(image):
+def named_functions(image: bytes) -> set[int]:
     """The addresses of the symbols that are functions, or that other files may name: a label within a function is neither."""
     start, = struct.unpack_from("<Q", image, 40)
     _, number = struct.unpack_from("<HH", image, 58)
@@ -36,13 +39,13 @@ def named_functions(image):
 class Code:
     """The instructions of a program, with their functions and lines."""
 
-    def __init__(self, program):
+    def __init__(self, program: str) -> None:
         self.program = program
         self.texts = counted.listing(program)
         self.is_listed = bool(self.texts)
         self.known = places.Places(program, is_whole=True)
 
-    def find_functions(self, entries=()):
+    def find_functions(self, entries: Iterator[Any] | set[int] | tuple[Any, ...] = ()) -> None:
         """Leaves of the names those of functions: such symbols, the entry, and what is called. Where there are no names it is their addresses."""
         image = pathlib.Path(self.program).read_bytes()
         called = {address + int(text[4:]) for address, text in self.texts.items() if text.startswith("bl .")}
@@ -53,11 +56,11 @@ class Code:
         else:
             self.known.functions = sorted((address, f"{address:016x}") for address in called)
 
-    def function(self, address):
+    def function(self, address: int) -> str:
         """The function at an address."""
         return self.known.function(address) or f"{address:016x}"
 
-    def line(self, address):
+    def line(self, address: int) -> tuple[str, int] | None:
         """The file and the line of an address, or None."""
         text = self.known.lines.get(address)
         if not text:
@@ -65,17 +68,17 @@ class Code:
         file, _, number = text.rpartition(":")
         return os.path.normpath(file), int(number)
 
-    def learn_lines(self):
+    def learn_lines(self) -> None:
         self.known.learn(self.texts)
 
-    def functions(self):
+    def functions(self) -> dict[str, list[int]]:
         """Each function with the addresses of its instructions."""
         found = collections.defaultdict(list)
         for address in sorted(self.texts):
             found[self.function(address)].append(address)
         return found
 
-    def lines(self):
+    def lines(self) -> dict[tuple[str, int], list[int]]:
         """The addresses of each line that has any, by file and number."""
         found = collections.defaultdict(list)
         for address in sorted(self.texts):
@@ -84,7 +87,7 @@ class Code:
         return found
 
 
-def short(line):
+def short(line: tuple[str, int]) -> str:
     """A file and a line without the folder."""
     return f"{pathlib.PurePath(line[0]).name}:{line[1]}"
 
@@ -92,10 +95,10 @@ def short(line):
 class Sources:
     """The texts of source lines, where their files are there."""
 
-    def __init__(self):
+    def __init__(self) -> None:
         self.files = {}
 
-    def lines(self, file):
+    def lines(self, file: str) -> list[str]:
         if file not in self.files:
             try:
                 self.files[file] = pathlib.Path(file).read_text(errors="replace").splitlines()
@@ -103,7 +106,7 @@ class Sources:
                 self.files[file] = []
         return self.files[file]
 
-    def text(self, line):
+    def text(self, line: tuple[str, int]) -> str:
         file, number = line
         lines = self.lines(file)
         return lines[number - 1].strip() if number <= len(lines) else ""
@@ -112,14 +115,14 @@ class Sources:
 # tables
 
 
-def rows(counts, most):
+def rows(counts: dict[int | str | tuple[tuple[str, int], str], int], most: int) -> Any:
     """The greatest counts with their names, and what is left of them."""
     ordered = sorted(counts.items(), key=lambda it: (-it[1], it[0]))
     shown = ordered[:most or None]
     return shown, ordered[len(shown):]
 
 
-def table(title, counts, most, name_of):
+def table(title: str, counts: Any, most: int, name_of: Callable[..., Any]) -> Iterator[str]:
     """The lines of a table."""
     total = sum(counts.values()) or 1
     shown, left = rows(counts, most)
@@ -131,14 +134,14 @@ def table(title, counts, most, name_of):
         yield f"  {count:>12} {100 * count / total:5.1f}%  {len(left)} more"
 
 
-def by_function(code, counts):
+def by_function(code: Code, counts: dict[int, int]) -> dict[str, int]:
     found = collections.Counter()
     for address, count in counts.items():
         found[code.function(address)] += count
     return found
 
 
-def by_line(code, counts):
+def by_line(code: Code, counts: dict[int, int]) -> dict[tuple[tuple[str, int], str], int]:
     """The count of each line with its function, and of each function that has no lines."""
     found = collections.Counter()
     for address, count in counts.items():
@@ -146,15 +149,15 @@ def by_line(code, counts):
     return found
 
 
-def tables(code, counts, words):
+def tables(code: Any, counts: Any, words: Any) -> Iterator[str]:
     """The lines of all tables that are asked for."""
     sources = Sources()
 
-    def line_name(key):
+    def line_name(key: tuple[tuple[str, int], str]) -> str:
         line, function = key
         return f"{short(line)} {function}: {sources.text(line)}".rstrip(": ") if line[0] else f"{NO_LINE} {function}"
 
-    def address_name(address):
+    def address_name(address: int) -> str:
         line = code.line(address)
         return " ".join(it for it in (f"{address:016x}", code.function(address), short(line) if line else "") if it) + f": {code.texts[address]}"
 
@@ -169,7 +172,7 @@ def tables(code, counts, words):
 # what was not executed
 
 
-def spans(numbers):
+def spans(numbers: list[int]) -> str:
     """Numbers in order as a text, with what follows one another as a range."""
     found = []
     for number in numbers:
@@ -180,7 +183,7 @@ def spans(numbers):
     return ", ".join(f"{low}" if low == high else f"{low}-{high}" for low, high in found)
 
 
-def never(code, counts):
+def never(code: Any, counts: Any) -> Iterator[str]:
     """The lines that say which functions and lines were not executed."""
     functions, lines = code.functions(), code.lines()
     idle = [name for name, held in functions.items() if not any(it in counts for it in held)]
@@ -197,7 +200,7 @@ def never(code, counts):
         yield f"  {pathlib.PurePath(file).name}: {spans(sorted(numbers))}"
 
 
-def lcov(code, counts):
+def lcov(code: Any, counts: Any) -> Iterator[str]:
     """The lines of a file of lcov: a line's count is that of its instruction that was executed most often."""
     files = collections.defaultdict(dict)
     for (file, number), held in code.lines().items():
@@ -220,7 +223,7 @@ def lcov(code, counts):
 # stacks
 
 
-def stacks(code, runs):
+def stacks(code: Code, runs: list[tuple[int, counted.Calls]]) -> dict[tuple[str, ...], int]:
     """The count of each stack of functions, outermost first; of several threads the thread stands before it."""
     found = collections.Counter()
     for number, calls in runs:
@@ -232,13 +235,13 @@ def stacks(code, runs):
     return found
 
 
-def folded(code, runs):
+def folded(code: Any, runs: Any) -> Iterator[str]:
     """A line for each stack."""
     clean = lambda name: name.replace(";", ":")
     yield from sorted(f"{';'.join(map(clean, stack))} {count}" for stack, count in stacks(code, runs).items())
 
 
-def callgrind(code, runs, program):
+def callgrind(code: Any, runs: Any, program: Any) -> Iterator[str]:
     """The lines of a file in callgrind's format, version 1."""
     own, calls = collections.defaultdict(collections.Counter), collections.defaultdict(lambda: collections.defaultdict(lambda: [0, 0]))
     for _, held in runs:
@@ -254,7 +257,7 @@ def callgrind(code, runs, program):
     files = {name: next((line[0] for line in map(code.line, held) if line), "???") for name, held in code.functions().items()}
     place = lambda address: code.line(address) or (files[code.function(address)], 0)
     yield from ("# callgrind format", "version: 1", "creator: smemu profile", f"cmd: {program}", "positions: instr line", "events: Instructions",
-                f"summary: {sum(map(sum, (it.values() for it in own.values())))}", "", f"ob={program}")
+                f"summary: {sum(sum(it.values()) for it in own.values())}", "", f"ob={program}")
     for name in sorted(set(own) | set(calls)):
         first = min([*own[name], *(site for site, _ in calls[name])])
         file = place(first)[0]
@@ -277,7 +280,7 @@ def callgrind(code, runs, program):
 # all of it
 
 
-def arguments():
+def arguments() -> argparse.Namespace:
     parser = argparse.ArgumentParser(description=__doc__.splitlines()[0])
     parser.add_argument("program", metavar="PROGRAM")
     parser.add_argument("report", metavar="REPORT")
@@ -298,7 +301,7 @@ def arguments():
     return words
 
 
-def between(text):
+def between(text: str) -> tuple[int, int]:
     """Two counts, or one that is both."""
     found = re.fullmatch(r"(0|[1-9]\d{0,9})(?:-(0|[1-9]\d{0,9}))?", text)
     if not found or found[2] and int(found[1]) > int(found[2]):
@@ -306,12 +309,12 @@ def between(text):
     return int(found[1]), int(found[2] or found[1])
 
 
-def title(total, numbers):
+def title(total: int, numbers: list[int]) -> str:
     """How many instructions these are, and of which threads."""
     return f"instructions {total}, of " + (f"thread {numbers[0]}" if len(numbers) == 1 else f"threads {numbers[0]} to {numbers[-1]}")
 
 
-def threads_of(report, asked):
+def threads_of(report: reports.Report, asked: int | None) -> tuple[list[int], dict[int, int]]:
     """The numbers of the threads that are looked at, and of their instructions."""
     there = {thread.number: thread.count for thread in report.threads}
     if asked is not None and asked not in there:
@@ -319,7 +322,7 @@ def threads_of(report, asked):
     return [asked] if asked is not None else list(there), there
 
 
-def main():
+def main() -> int:
     words = arguments()
     code = Code(words.program)
     numbers, there = threads_of(reports.read(words.report, journals=False), words.thread)
@@ -341,7 +344,7 @@ def main():
     for _, calls in runs:
         counts.update(calls.by_address())
     if words.never or words.lcov:
-        lines = (never if words.never else lcov)(code, counts)
+        lines: Any = (never if words.never else lcov)(code, counts)
     elif words.folded:
         lines = folded(code, runs)
     elif words.callgrind:

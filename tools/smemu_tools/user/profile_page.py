@@ -2,10 +2,13 @@
 
 The functions and the source lines stand in the file as they are; the flame graph is drawn by page/profile.js. Nothing is fetched from elsewhere.
 """
+from __future__ import annotations
+
 import collections
 import html
 import json
 import pathlib
+from typing import Any, Iterator
 
 PARTS = pathlib.Path(__file__).resolve().parent / "page"
 # stacks with a lesser part of all instructions are left out of the graph
@@ -16,9 +19,9 @@ MOST_LINES = 20_000
 AROUND = 2
 
 
-def tree(stacks):
+def tree(stacks: dict[tuple[str, ...], int]) -> list[int | list[list[int | list[Any] | str]] | str]:
     """The stacks as a tree: of each function its name, its own instructions, those with all that it called, and these."""
-    top = ["all", 0, 0, {}]
+    top: list[Any] = ["all", 0, 0, {}]
     for stack, count in stacks.items():
         here = top
         here[2] += count
@@ -29,13 +32,13 @@ def tree(stacks):
     return pruned(top, max(1, top[2] // LEAST_PART))
 
 
-def pruned(node, least):
+def pruned(node: Any, least: int) -> list[int | list[list[int | list[Any] | str]] | str]:
     """A tree without what is less than so many instructions, as lists."""
     name, own, whole, below = node
     return [name, own, whole, [pruned(it, least) for _, it in sorted(below.items()) if it[2] >= least]]
 
 
-def function_rows(stacks):
+def function_rows(stacks: dict[tuple[str, ...], int]) -> list[tuple[str, int, int]]:
     """Each function with its own instructions and those of all that it called, each stack once."""
     own, whole = collections.Counter(), collections.Counter()
     for stack, count in stacks.items():
@@ -44,23 +47,23 @@ def function_rows(stacks):
     return sorted(((name, own[name], count) for name, count in whole.items()), key=lambda it: (-it[1], -it[2], it[0]))
 
 
-def share(count, total):
+def share(count: int, total: int) -> str:
     return f"{100 * count / total:.1f}%" if total else "0%"
 
 
-def function_table(stacks, total):
+def function_table(stacks: dict[tuple[str, ...], int], total: int) -> str:
     rows = "".join(f'<tr><td class="number">{own:,}</td><td class="number">{share(own, total)}</td><td class="number">{whole:,}</td>'
                    f'<td class="number">{share(whole, total)}</td><td>{html.escape(name)}</td></tr>' for name, own, whole in function_rows(stacks))
     return ('<section id="functions"><h2>Functions</h2><div class="wide"><table><thead><tr><th class="number" colspan="2">its own</th>'
             f'<th class="number" colspan="2">with its calls</th><th>function</th></tr></thead><tbody>{rows}</tbody></table></div></section>')
 
 
-def heat(count, most):
+def heat(count: int | None, most: int) -> str:
     """A background that is as strong as the count's part of the greatest."""
     return f' style="--heat:{0.08 + 0.47 * count / most:.3f}"' if count else ""
 
 
-def line_rows(numbered, most):
+def line_rows(numbered: Any, most: int) -> Iterator[str]:
     """Rows of a table: a number, how often it was executed or None, and the text."""
     for number, count, text in numbered:
         kind = "plain" if count is None else "hot" if count else "never"
@@ -69,19 +72,19 @@ def line_rows(numbered, most):
                f'<td class="text">{html.escape(text)}</td></tr>')
 
 
-def file_lines(lines, texts):
+def file_lines(lines: dict[int, int], texts: list[str]) -> Iterator[tuple[int, int | None, str]]:
     """The lines of a file from the first to the last with code, and some around them: number, count, text."""
     numbers = [*lines, *()]
     for number in range(max(1, min(numbers) - AROUND), min(max(numbers) + AROUND, max(len(texts), max(numbers))) + 1):
         yield number, lines.get(number), texts[number - 1] if number <= len(texts) else ""
 
 
-def block(name, count, total, rows, is_open):
+def block(name: str, count: int, total: Any, rows: Iterator[Any], is_open: bool) -> str:
     return (f'<details{" open" * is_open}><summary>{html.escape(name)} <span class="dim">{count:,} instructions, {share(count, total)}</span></summary>'
             f'<div class="wide"><table class="source"><tbody>{"".join(rows)}</tbody></table></div></details>')
 
 
-def sources_section(code, counts, sources):
+def sources_section(code: Any, counts: dict[int, int], sources: Any) -> str:
     """The source lines with their counts, file by file, the one with the most instructions first; and the instructions of functions without lines."""
     total, files = sum(counts.values()), collections.defaultdict(dict)
     for (file, number), held in code.lines().items():
@@ -101,7 +104,7 @@ def sources_section(code, counts, sources):
     return f'<section id="sources"><h2>{"Source lines" if files else "Instructions"}</h2>{"".join(blocks)}</section>'
 
 
-def page(code, counts, stacks, sources, title):
+def page(code: Any, counts: dict[int, int], stacks: dict[tuple[str, ...], int], sources: Any, title: str) -> str:
     """The file."""
     name = html.escape(pathlib.PurePath(code.program).name)
     # no text of a program may end the element

@@ -8,6 +8,8 @@ it has a section table; of an object file the addresses are those within a secti
 and what docs/FROM_C.md says to write. The last lines say how many words there are, and what else the file is refused for; then the status is 1. Where
 there is no section table, so that no word was looked at, it is 3. SMEMU may name the emulator.
 """
+from __future__ import annotations
+
 import argparse
 import bisect
 import collections
@@ -19,6 +21,7 @@ import struct
 import subprocess
 import sys
 import tempfile
+from typing import Any, Iterator
 
 from smemu_tools import TOP
 from smemu_tools.user import emulator
@@ -28,7 +31,7 @@ NOP = 0xD503201F
 MOST_LINES = 2048
 SYMTAB, PROGBITS, EXECINSTR, OBJECT, AARCH64 = 2, 1, 4, 1, 183
 # each with what it needs to know all instructions, the best first
-DUMPS = [*((f"llvm-objdump-{n}", ["--mattr=+all"]) for n in range(30, 15, -1)), ("aarch64-linux-gnu-objdump", []), ("llvm-objdump", [])]
+DUMPS: list[tuple[str, list[str]]] = [*((f"llvm-objdump-{n}", ["--mattr=+all"]) for n in range(30, 15, -1)), ("aarch64-linux-gnu-objdump", []), ("llvm-objdump", [])]
 FROM_C = TOP / "docs" / "FROM_C.md"
 # what objdump's text looks like, and with what the row of FROM_C.md begins that says what to write; the first that fits
 ROWS = [(re.compile(pattern), row) for pattern, row in (
@@ -55,7 +58,7 @@ class Section(collections.namedtuple("Section", "name number kind flags address 
     """A header of the section table."""
 
 
-def sections_of(image):
+def sections_of(image: bytes) -> list[Section]:
     """The sections of a file, none where it is no ELF64 file for AArch64 with a section table that is whole."""
     if image[:6] != b"\x7fELF\x02\x01" or len(image) < 64 or image[18:20] != bytes((AARCH64, 0)):
         return []
@@ -68,12 +71,12 @@ def sections_of(image):
     return [Section(name_at(image, text + it[0]), at, it[1], it[2], it[3], it[4], it[5], it[6]) for at, it in enumerate(headers)]
 
 
-def name_at(image, place):
+def name_at(image: bytes, place: int) -> str:
     end = image.find(0, place)
     return bytes(image[place:end]).decode(errors="replace") if 0 <= place < end else ""
 
 
-def symbols_of(image, sections):
+def symbols_of(image: bytes, sections: list[Section]) -> Iterator[tuple[int, str, int, int]]:
     """Each symbol of the symbol tables: its value, its name, its type and its section's number, in the order of the tables."""
     for table in sections:
         if table.kind == SYMTAB and table.link < len(sections) and table.offset + table.size <= len(image):
@@ -82,13 +85,13 @@ def symbols_of(image, sections):
                 yield value, name_at(image, sections[table.link].offset + name), info & 15, section
 
 
-def functions_of(image, number=None):
+def functions_of(image: bytes, number: Any = None) -> list[tuple[int, str]]:
     """The addresses of functions and labels with a name, in order, and the names; of one section, or all."""
     return sorted((value, name) for value, name, kind, section in symbols_of(image, sections_of(image))
                   if kind in (0, 2) and section and name and not name.startswith("$") and number in (None, section))
 
 
-def code_words(image):
+def code_words(image: bytes) -> Iterator[tuple[Section, int, int, int]]:
     """The code words of a file, by docs/PROGRAM_FILE.md: section, address, place in the file and word."""
     sections = sections_of(image)
     marks = collections.defaultdict(dict)
@@ -106,7 +109,7 @@ def code_words(image):
                     yield section, address, place, struct.unpack_from("<I", image, place)[0]
 
 
-def without_meaning(smemu, words):
+def without_meaning(smemu: str, words: set[int]) -> set[int]:
     """Those of these words that mean no instruction: `vectors` answers that they are undefined."""
     found, words = set(), sorted(words)
     for at in range(0, len(words), MOST_LINES):
@@ -117,7 +120,7 @@ def without_meaning(smemu, words):
     return found
 
 
-def fault_of(smemu, image):
+def fault_of(smemu: str, image: bytearray) -> str:
     """What `dis` says in the place of a listing of a file with these bytes, or nothing."""
     with tempfile.NamedTemporaryFile() as copy:
         copy.write(image)
@@ -126,7 +129,7 @@ def fault_of(smemu, image):
     return ended.stdout.decode(errors="replace").partition("\n")[0] or f"smemu ended with status {ended.returncode}" if ended.returncode else ""
 
 
-def refused(smemu, image):
+def refused(smemu: str, image: bytes) -> tuple[list[tuple[Section, int, int, int]], str]:
     """The words that mean no instruction, each as `code_words` has it, and what else the file is refused for, or nothing."""
     words = list(code_words(image))
     meaningless = without_meaning(smemu, {it[3] for it in words})
@@ -136,7 +139,7 @@ def refused(smemu, image):
     return found, fault_of(smemu, patched)
 
 
-def texts_of(name):
+def texts_of(name: str) -> dict[tuple[str, int], str] | None:
     """What objdump says of each address of each section, where one is installed, or None."""
     for dump, options in DUMPS:
         if shutil.which(dump):
@@ -150,19 +153,19 @@ def texts_of(name):
     return None
 
 
-def advice():
+def advice() -> dict[str, str]:
     """The last cell of each row of FROM_C.md about what is not listed, by the first one."""
     part = FROM_C.read_text().partition("\n## What is not listed")[2].partition("\n## ")[0] if FROM_C.is_file() else ""
     rows = [line.strip("| ").split(" | ") for line in part.splitlines() if line.startswith("| ")]
     return {row[0]: re.sub(r"\[([^]]*)\]\([^)]*\)", r"\1", row[-1]) for row in rows[1:]}
 
 
-def row_of(text):
+def row_of(text: str) -> str:
     """With what the row begins that says what to write for an instruction, or nothing."""
     return next((row for pattern, row in ROWS if pattern.match(text)), None)
 
 
-def what_to_write(texts):
+def what_to_write(texts: Any) -> Iterator[str]:
     """A line for each mnemonic and each row of FROM_C.md: how often it is there, and what to write."""
     counts = collections.Counter((text.partition(" ")[0], row_of(text)) for text in texts)
     cells = advice()
@@ -171,7 +174,7 @@ def what_to_write(texts):
         yield f"{mnemonic} {count}" + (f": {said}" if said else "")
 
 
-def where(section, address, functions, known):
+def where(section: Section, address: int, functions: Any, known: Any) -> str:
     """The section of an object file, the function and the line of a word, as far as they are known; `functions` has those of each of its sections."""
     is_object = functions is not None
     named = functions[section.number] if is_object else known.functions
@@ -181,7 +184,7 @@ def where(section, address, functions, known):
     return " ".join(it for it in (section.name if is_object else "", function, "" if is_object else known.lines[address]) if it)
 
 
-def show(name, image, found):
+def show(name: str, image: bytes, found: list[tuple[Section, int, int, int]]) -> None:
     """Shows the words that were found, and what to write in their places."""
     # places asks this module for functions
     from smemu_tools.user import places
@@ -199,7 +202,7 @@ def show(name, image, found):
         print(line)
 
 
-def main():
+def main() -> int:
     parser = argparse.ArgumentParser(description=__doc__.partition("\n")[0])
     parser.add_argument("program", metavar="PROGRAM")
     parser.add_argument("--smemu", metavar="SMEMU", help="the emulator")

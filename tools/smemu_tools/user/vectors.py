@@ -12,17 +12,20 @@ An object has "word" (a number) or, of an answer, "end" ("next", or "call", "rai
 fault, 2 for what cannot be read. How many bytes a vector, a predicate or a vector of ZA has is looked at by `check` alone, since the lengths are options of
 the emulator.
 """
+from __future__ import annotations
+
 import argparse
 import json
 import re
 import sys
+from typing import Any
 
 MOST_LINES = 2048
 LENGTHS = (128, 256, 512, 1024, 2048)
 FILES = {"x": 31, "z": 32, "p": 16, "za": 256}
 ORDER = ["x", "sp", "nzcv", "tpidr", "tpidr2", "svcr", "z", "p", "ffr", "za", "m"]
 # of each kind of value the digits in a line, and their base, where it is a number; the others are bytes
-NUMBERS = {key: ("[0-9a-f]{16}", 16) for key in ("x", "pc", "sp", "tpidr", "tpidr2")} | {"nzcv": ("[01]{4}", 2), "svcr": ("[0-3]", 10)}
+NUMBERS = {**{key: ("[0-9a-f]{16}", 16) for key in ("x", "pc", "sp", "tpidr", "tpidr2")}, "nzcv": ("[01]{4}", 2), "svcr": ("[0-3]", 10)}
 BYTES = "([0-9a-f]{2})+"
 FIELD = re.compile(r"(?:(x|za|z|p)(0|[1-9][0-9]{0,2})|(pc|sp|nzcv|tpidr2|tpidr|svcr|ffr|m))=([0-9a-f]+)")
 
@@ -31,14 +34,14 @@ class Unread(ValueError):
     """A line or an object that is not as docs/VECTORS.md says."""
 
 
-def number(value, most=(1 << 64) - 1):
+def number(value: int | str, most: int = (1 << 64) - 1) -> int:
     value = int(value, 0) if isinstance(value, str) else value
     if not 0 <= value <= most:
         raise Unread(f"{value} is no number up to {most}")
     return value
 
 
-def value_text(key, value):
+def value_text(key: str, value: Any) -> str:
     """The text of a value, or nothing where it is zero."""
     if key == "nzcv":
         return f"{number(value, 15):04b}" if number(value) else ""
@@ -50,19 +53,21 @@ def value_text(key, value):
     return digits.rstrip("0") and digits
 
 
-def fields(state):
+def fields(state: Any) -> list[str]:
     """The fields of a state that are not zero, in the order of a line."""
     said = []
     for key in ORDER:
         held = state.get(key, {} if key in FILES else 0)
-        numbered = sorted((int(n), value) for n, value in held.items()) if key in FILES else [("", held)] if held else []
+        numbered: list[Any] = [("", held)] if held else []
+        if key in FILES:
+            numbered = sorted((int(n), value) for n, value in held.items())
         if key in FILES and any(not 0 <= n < FILES[key] for n, _ in numbered):
             raise Unread(f"a number of {key} is not below {FILES[key]}")
         said += [f"{key}{n}={value_text(key, value)}" for n, value in numbered if value_text(key, value)]
     return said
 
 
-def line(state):
+def line(state: Any) -> str:
     """The line of a vector, from its word and its state, or that of an answer, whose data end with their last byte that is not zero."""
     if "end" not in state:
         return " ".join([f"{number(state['word'], (1 << 32) - 1):08x}", *fields(state)])
@@ -72,11 +77,12 @@ def line(state):
     return " ".join([f"next pc={number(state.get('pc', 0)):016x}", *fields({**state, "m": data})])
 
 
-def read(text):
+def read(text: str) -> dict[str, Any]:
     """The object of a line of vectors or of answers."""
     first, *words = text.split(" ")
     if first in ("call", "raise", "shared"):
         return {"end": first, "values": words}
+    state: dict[str, Any]
     if first == "next":
         state = {"end": "next"}
     elif re.fullmatch("[0-9a-f]{8}", first):
@@ -98,7 +104,7 @@ def read(text):
     return state
 
 
-def flat(state):
+def flat(state: dict[str, Any]) -> dict[str, int | list[str] | str]:
     """The fields of an object, by the names of a line."""
     said = {}
     for key, value in state.items():
@@ -106,7 +112,7 @@ def flat(state):
     return said
 
 
-def differences(first, second):
+def differences(first: list[str], second: list[str]) -> Any:
     """What two files of answers differ in: the line from 1 on, the field, and its value in either, 0 where it is absent."""
     found = []
     for number_of_line in range(max(len(first), len(second))):
@@ -119,7 +125,7 @@ def differences(first, second):
 # a file of vectors
 
 
-def key_of(name):
+def key_of(name: str) -> tuple[int, int] | None:
     """The place of a field's key in the order of a line, or None."""
     said = re.fullmatch(r"(x|za|z|p)(0|[1-9][0-9]{0,2})", name)
     if said and int(said[2]) < FILES[said[1]]:
@@ -127,7 +133,7 @@ def key_of(name):
     return (ORDER.index(name), 0) if name in ORDER and name not in FILES else None
 
 
-def value_fault(name, value, svcr, vl, svl):
+def value_fault(name: str, value: str, svcr: int, vl: int, svl: int) -> str:
     """What is wrong with the value of a field, by the lengths in bytes, or nothing."""
     if re.search("[A-F]", value):
         return "digits that are letters are in lower case"
@@ -149,7 +155,7 @@ def value_fault(name, value, svcr, vl, svl):
     return "" if len(value) == 2 * wanted else f"{name} has {wanted} bytes here, {2 * wanted} digits, and this is {len(value) / 2:g}"
 
 
-def fault(text, number, vl, svl):
+def fault(text: str, number: int, vl: int, svl: int) -> tuple[int, str] | None:
     """The column of a line of vectors, from 0, at which it is at fault, and why; None where it is not. The lengths are in bytes."""
     if number > MOST_LINES:
         return 0, f"a file has at most {MOST_LINES:,} lines"
@@ -174,7 +180,7 @@ def fault(text, number, vl, svl):
     return (len(text) - 1, "a line ends with a line feed alone, without a carriage return") if text.endswith("\r") else None
 
 
-def check(name, vl, svl):
+def check(name: Any, vl: int, svl: int) -> tuple[int, int, str, str] | None:
     """The first line of a file of vectors that is at fault, its column from 0, the line and why; None where there is none. The lengths are in bits."""
     with open(name, errors="replace", newline="\n") as file:
         lines = file.read().split("\n")
@@ -185,7 +191,7 @@ def check(name, vl, svl):
     return None
 
 
-def check_words(words):
+def check_words(words: list[str]) -> argparse.Namespace:
     """The words after `check`: a name and the lengths, 128 and 256 where they are not given."""
     parser = argparse.ArgumentParser(prog="smemu-tools vectors check", description="Says which line of a file of vectors is at fault, in which field, and why.")
     parser.add_argument("file", metavar="FILE")
@@ -194,11 +200,11 @@ def check_words(words):
     return parser.parse_args(words)
 
 
-def shown(value):
+def shown(value: int | list[str] | str) -> str:
     return f"{value:x}" if isinstance(value, int) else " ".join(value) if isinstance(value, list) else value
 
 
-def asked(words):
+def asked(words: list[str]) -> int:
     """Does what the words ask for, and gives the status."""
     if words == ["line"]:
         for state in (json.loads(text) for text in sys.stdin if text.strip()):
@@ -226,7 +232,7 @@ def asked(words):
     return 0
 
 
-def main():
+def main() -> int:
     try:
         return asked(sys.argv[1:])
     except (Unread, KeyError, TypeError, ValueError, OSError) as error:

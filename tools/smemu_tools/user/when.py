@@ -8,8 +8,11 @@ back from one, --last from the end. The first change is shown; --most N shows so
 which counts were not looked at. A line says the count, the address, function and source line of the instruction, and its text; below are the lines of
 the answer before it and after it. The status is 1 where nothing changes, and 3 where --most was met. SMEMU may name the emulator.
 """
+from __future__ import annotations
+
 import argparse
 import sys
+from typing import Any, Iterator
 
 from smemu_tools.user import emulator, places, progress, recorded
 
@@ -19,7 +22,7 @@ SHOWN = 8
 NO_SCRIPT = 11
 
 
-def changes(thread, question, words):
+def changes(thread: Any, question: Any, words: Any) -> Iterator[int]:
     """The counts of the changes that are asked for, one after the other."""
     told = progress.Progress()
     show = lambda count: told.show(f"count {count} of {thread.end}")
@@ -34,7 +37,7 @@ def changes(thread, question, words):
         count = found if back else found + 1
 
 
-def shown(before, after):
+def shown(before: Any, after: Any) -> Iterator[str]:
     """The lines of two answers that are not in both."""
     for mark, lines, others in (("-", before, after), ("+", after, before)):
         only = [line for line in lines if line not in others]
@@ -43,7 +46,7 @@ def shown(before, after):
             yield f"  {mark} and {len(only) - SHOWN} lines more"
 
 
-def arguments():
+def arguments() -> tuple[argparse.ArgumentParser, argparse.Namespace]:
     parser = argparse.ArgumentParser(
         description=__doc__.splitlines()[0], usage="%(prog)s PROGRAM REPORT [THREAD] QUESTION [--after COUNT | --before COUNT | --last] [--most N]",
         epilog="QUESTION is `mem ADDRESS LENGTH`, `slice ELEM TILE h N` or za, or a register by its name in a report: `x 3`, `z 0`, sp.")
@@ -66,7 +69,7 @@ def arguments():
     return parser, words
 
 
-def unseen(thread, words, found):
+def unseen(thread: recorded.Recorded, words: argparse.Namespace, found: list[int]) -> str:
     """What the bound on changes left: the counts of a thread that were not looked at, or nothing."""
     if words.most is None or len(found) < words.most:
         return ""
@@ -75,7 +78,7 @@ def unseen(thread, words, found):
     return f"counts of thread {thread.block.number} from {found[-1] + 1} on" if found[-1] + 1 < thread.end else ""
 
 
-def look_at(thread, words, known):
+def look_at(thread: recorded.Recorded, words: argparse.Namespace, known: places.Places) -> list[int]:
     """Shows the changes of an answer; the answer is their counts."""
     found = []
     for count in changes(thread, words.question, words):
@@ -89,7 +92,7 @@ def look_at(thread, words, known):
     return found
 
 
-def main():
+def main() -> int:
     parser, words = arguments()
     threads = [words.thread] if words.thread is not None else recorded.threads_of(words.program, words.report)
     known, found, left = places.Places(words.program), [], []

@@ -20,9 +20,12 @@ follows the vector convention, and so keeps Z8 to Z23 and P4 to P15, or all; --p
 first N calls of a thread with ZA on. What abi-check says of the thread stands below. Where some call was not looked at, the last line says which,
 and the status is 3, if it is not 1. SMEMU may name the emulator.
 """
+from __future__ import annotations
+
 import argparse
 import collections
 import re
+from typing import Any, Callable, Iterator
 
 from smemu_tools.user import call_faults, counted, emulator, places, recorded, reports
 
@@ -36,43 +39,46 @@ NONE_MARKED = "abi yes calls 0 open 0"
 class Side:
     """A thread before a call, or after its return."""
 
-    def __init__(self, registers, za):
+    def __init__(self, registers: list[str], za: list[str]) -> None:
         self.registers = dict(line.rsplit(" ", 1) for line in registers)
         self.za = recorded.read_za(za)
 
-    def number(self, name):
+    def number(self, name: str) -> int:
         return int(self.registers.get(name, "0"), 16)
 
     @property
-    def is_on(self):
+    def is_on(self) -> bool:
         return self.registers["svcr"] in ("2", "3")
 
 
 class Call:
     """A call with ZA on: its count, its address, where it goes, and its sides."""
 
-    def __init__(self, count, address, text):
+    def __init__(self, count: int, address: int, text: str) -> None:
         self.count, self.address, self.text = count, address, text
-        self.before = self.after = self.returned = self.kind = None
+        self.before: Any = None
+        self.after: Any = None
+        self.returned: Any = None
+        self.kind: Any = None
         self.saved = {}
 
-    def target(self):
+    def target(self) -> int:
         """The address of the function that is called."""
         name, operand = self.text.split()
         return self.address + int(operand[1:]) if name == "bl" else self.before.number(f"x {operand[1:]}")
 
-    def block(self):
+    def block(self) -> int:
         """The address of the block that may name a buffer for ZA: TPIDR2_EL0, or the first argument where that is null."""
         return self.before.number("tpidr2") or self.before.number("x 0")
 
 
-def in_parts(thread, items, size):
+def in_parts(thread: recorded.Recorded, items: list[Call], size: int) -> Iterator[Any]:
     """Items in lists, of which each is asked for in one call: so many vectors of ZA each."""
     most = max(8, recorded.MOST_BYTES // (size * 2 * thread.rows * thread.rows))
     return (items[at:at + most] for at in range(0, len(items), most))
 
 
-def calls_with_za(thread, listing, most):
+def calls_with_za(thread: recorded.Recorded, listing: str, most: int) -> Any:
     """The calls that are made with ZA on, in order, as many as are to be looked at; how many calls there are; and the count of the first that is not."""
     found = []
     for address, text in CALL.findall(listing):
@@ -83,7 +89,7 @@ def calls_with_za(thread, listing, most):
     return on[:most], len(found), on[most].count if len(on) > most else None
 
 
-def find_returns(thread, calls):
+def find_returns(thread: recorded.Recorded, calls: list[Call]) -> None:
     """Finds the return of each call, and reads both sides of it."""
     for part in in_parts(thread, calls, 1):
         answers = thread.ask([it for call in part for it in (f"goto {call.count}", "regs", "za")])
@@ -102,12 +108,12 @@ def find_returns(thread, calls):
         left = [(call, counts[1:]) for call, counts in left if call.returned is None]
 
 
-def after_of(call, places_after):
+def after_of(call: Call, places_after: dict[int, list[int]]) -> list[int]:
     """The counts after a call at which it may have returned."""
     return [count for count in places_after[call.address] if count > call.count]
 
 
-def read_returns(thread, calls):
+def read_returns(thread: recorded.Recorded, calls: list[Call]) -> None:
     """Reads each call's other side, with what its block and its buffer have there."""
     returned = sorted((call for call in calls if call.returned is not None), key=lambda it: it.returned)
     for part in in_parts(thread, returned, 2):
@@ -124,7 +130,7 @@ def read_returns(thread, calls):
             call.saved = None if "fault" in data or not length else bytes.fromhex(data)
 
 
-def buffer_of(block, rows):
+def buffer_of(block: str, rows: int) -> tuple[int, int]:
     """The start and the length of the buffer that a block names, 0 bytes where it is no block that can be read."""
     if block.startswith("fault"):
         return 0, 0
@@ -133,19 +139,19 @@ def buffer_of(block, rows):
     return int.from_bytes(data[:8], "little"), min(slices, rows) * rows
 
 
-def mem_lines(start, length):
+def mem_lines(start: int, length: int) -> list[str]:
     """The commands that ask for so many bytes."""
     return [f"mem {start + at:#x} {min(4096, length - at)}" for at in range(0, length, 4096)]
 
 
-def is_in_buffer(call, side, rows):
+def is_in_buffer(call: Call, side: Side, rows: int) -> bool:
     """Tells whether the buffer has the vectors of ZA of a side, as many as it is to hold."""
     if call.saved is None:
         return False
     return all(call.saved[at:at + rows] == side.za.get(at // rows, bytes(rows)) for at in range(0, len(call.saved), rows))
 
 
-def judge(calls, rows, is_shared):
+def judge(calls: list[Call], rows: int, is_shared: Callable[..., Any]) -> None:
     """Says of each call that has returned what became of ZA over it."""
     blocks = set()
     for call in calls:
@@ -165,7 +171,7 @@ def judge(calls, rows, is_shared):
             call.kind = "lost" if not after.is_on else "shared" if is_shared(call.target()) else "changed"
 
 
-def lines_of(calls, known, show_all):
+def lines_of(calls: Any, known: Any, show_all: Any) -> Iterator[str]:
     """A line for each place of calls."""
     by_place = collections.defaultdict(list)
     for call in calls:
@@ -181,7 +187,7 @@ def lines_of(calls, known, show_all):
         yield f"{known.text(address)} calls {to}: " + ", ".join(f"{kind} {counts[kind]}" for kind in (*KINDS, "not returned") if counts[kind]) + span
 
 
-def abi_check(words, number):
+def abi_check(words: argparse.Namespace, number: int) -> str:
     """What abi-check says of a thread."""
     try:
         said = emulator.call([emulator.find(), "abi-check", words.program, words.report, number]).decode().strip()
@@ -190,7 +196,7 @@ def abi_check(words, number):
     return "no call of this run is marked" if said == NONE_MARKED else said
 
 
-def look_at(words, number, listing, known):
+def look_at(words: argparse.Namespace, number: int, listing: str, known: places.Places) -> tuple[bool, None]:
     """Says what became of ZA over the calls of a thread; the answer is whether one is at fault, and the count of the first that was not looked at."""
     thread = recorded.Recorded(words.program, words.report, number)
     calls, calls_made, left = calls_with_za(thread, listing, words.most)
@@ -202,14 +208,14 @@ def look_at(words, number, listing, known):
     faults = [it for it in others.check() if it.kind != "few slices" or not words.partial]
     for line in (*lines_of(calls, known, words.all), *call_faults.lines_of(faults, known)):
         print(line)
-    counts = collections.Counter(call.kind for call in calls)
+    counts: Any = collections.Counter(call.kind for call in calls)
     texts = [f"{kind} {counts[kind]}" for kind in KINDS] + [f"not returned {counts[None]}"]
     print(f"calls {calls_made}, with ZA on {len(calls)}" + (" and more" if left is not None else "") + ": " + ", ".join(texts))
     print(f"abi-check: {abi_check(words, number)}")
     return bool(faults) or any(counts[kind] for kind in FAULTS), min((it for it in (left, others.left) if it is not None), default=None)
 
 
-def arguments():
+def arguments() -> tuple[argparse.ArgumentParser, argparse.Namespace]:
     parser = argparse.ArgumentParser(description=__doc__.splitlines()[0])
     parser.add_argument("program", metavar="PROGRAM")
     parser.add_argument("report", metavar="REPORT")
@@ -222,7 +228,7 @@ def arguments():
     return parser, parser.parse_args()
 
 
-def main():
+def main() -> int:
     parser, words = arguments()
     listing = emulator.call([emulator.find(), "dis", words.program]).decode()
     known = places.Places(words.program)
