@@ -77,7 +77,8 @@ def main() -> None:
     words = parser(__doc__)
     words.add_argument("folder", nargs="?", metavar="FOLDER")
     asked = words.parse_args()
-    with tempfile.TemporaryDirectory() as name, tarfile.open(STORED, "w:xz", preset=9) as stored:  # type: ignore[call-arg]
+    options: dict[str, Any] = {"preset": 9}
+    with tempfile.TemporaryDirectory() as name, tarfile.open(STORED, "w:xz", **options) as stored:
         work, folder = pathlib.Path(name), pathlib.Path(asked.folder or name)
         folder.mkdir(exist_ok=True)
         source = assembly("kernels", "O2", work)

@@ -304,7 +304,8 @@ def try_beside_qemu(tests: Tests) -> None:
         tests.run("ld.lld-19", "-static", "-z", "max-page-size=4096", "-o", name, tests.path("start.o"), tests.path("routine.o"))
         for bits in (128, 2048):
             log = tests.path("qemu.log")
-            tests.run(qemu, "-cpu", f"max,sve-default-vector-length={bits // 8}", "-singlestep", "-d", "exec,nochain", "-D", log, name)
+            # what a routine writes is no text
+            subprocess.run([qemu, "-cpu", f"max,sve-default-vector-length={bits // 8}", "-singlestep", "-d", "exec,nochain", "-D", log, name], stdout=subprocess.DEVNULL)
             wanted = collections.Counter(int(it, 16) for it in re.findall(r"(?m)^Trace \d+: \S+ \[[0-9a-f]+/([0-9a-f]+)/", log.read_text()))
             found = Profile(tests, name, tests.report(name, "beside", "--vl", bits)).addresses()
             tests.check(f"{kind} {number} at {bits} bits, beside QEMU", [found == dict(wanted), len(found) > 20], [True, True])
