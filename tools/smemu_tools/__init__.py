@@ -1,4 +1,5 @@
-"""The scripts of smemu: for its users, and for those who change it. tools/smemu-tools starts them."""
+"""The scripts of smemu: for its users, and for those who change it. tools/smemu-tools starts
+them."""
 from __future__ import annotations
 
 import argparse
@@ -12,4 +13,5 @@ TOOL = TOP / "tools" / "smemu-tools"
 
 def parser(text: str) -> argparse.ArgumentParser:
     """A parser of a script's words, whose help is what the script says of itself."""
-    return argparse.ArgumentParser(description=text, formatter_class=argparse.RawDescriptionHelpFormatter)
+    return argparse.ArgumentParser(description=text,
+                                   formatter_class=argparse.RawDescriptionHelpFormatter)

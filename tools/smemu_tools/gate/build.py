@@ -1,12 +1,15 @@
-"""Builds the emulator, and says on standard error how far it is. `./smemu` calls it for `--build`, and where there is no program of these sources.
+"""Builds the emulator, and says on standard error how far it is. `./smemu` calls it for `--build`,
+and where there is no program of these sources.
 
     tools/smemu-tools build
 
-Proves each crate that the program stands on as soon as those below it are proved, as many at a time as there are cores, and
-memory for; crates of tests are left out. What is proved stays in the crates' out/, so a build that was interrupted goes on.
+Proves each crate that the program stands on as soon as those below it are proved, as many at a time
+as there are cores, and memory for; crates of tests are left out. What is proved stays in the
+crates' out/, so a build that was interrupted goes on.
 
-`rt` lets one run at a time work in a crate's folder and in those below it. So each run has a tree of its own, out/tree in its
-crate's folder, in which the files of the crates below are links to what is proved.
+`rt` lets one run at a time work in a crate's folder and in those below it. So each run has a tree
+of its own, out/tree in its crate's folder, in which the files of the crates below are links to what
+is proved.
 """
 from __future__ import annotations
 
@@ -30,9 +33,11 @@ EACH = 2_500_000_000
 
 def read_crates() -> tuple[dict[str, str], dict[str, list[str]]]:
     """The lines of crates.txt by crate, and the crates of the repository that each one uses."""
-    rows = [line.partition("#")[0].strip() for line in (TOP / "crates.txt").read_text().splitlines()]
+    rows = [line.partition("#")[0].strip()
+            for line in (TOP / "crates.txt").read_text().splitlines()]
     lines = {row.partition(":")[0].split()[0]: row for row in rows if row}
-    return lines, {name: [it for it in row.partition(":")[2].split() if it in lines] for name, row in lines.items()}
+    return lines, {name: [it for it in row.partition(":")[2].split() if it in lines]
+                   for name, row in lines.items()}
 
 
 LINES, USES = read_crates()
@@ -47,7 +52,8 @@ def below(name: str) -> list[str]:
 
 
 def urgency(needed: Any) -> Any:
-    """For each crate how many lines there are to prove from it to the program, by the longest way."""
+    """For each crate how many lines there are to prove from it to the program, by the longest
+    way."""
     found = {}
     for name in reversed(needed):
         files = [*(CRATES / name).glob("src/**/*.rt"), *(CRATES / name).glob("proofs/**/*.antt")]
@@ -59,7 +65,8 @@ def urgency(needed: Any) -> Any:
 def slots() -> Any:
     """How many runs may work at once."""
     try:
-        free = int(next(line for line in open("/proc/meminfo") if line.startswith("MemAvailable")).split()[1]) * 1024
+        free = int(next(line for line in open("/proc/meminfo")
+                        if line.startswith("MemAvailable")).split()[1]) * 1024
     except (OSError, StopIteration):
         free = 0
     return max(1, min(len(os.sched_getaffinity(0)), free // EACH))
@@ -114,11 +121,13 @@ def lock() -> Any:
 
 
 class Run:
-    """A run of rt in a folder, with what it prints. It holds the lock too, as it may outlive a build that is killed."""
+    """A run of rt in a folder, with what it prints. It holds the lock too, as it may outlive a
+    build that is killed."""
 
     def __init__(self, held: Any, folder: Any, *words: Any) -> None:
         self.log = tempfile.TemporaryFile()
-        self.process = subprocess.Popen(["rt", *words], cwd=folder, stdin=subprocess.DEVNULL, stdout=self.log, stderr=self.log, pass_fds=[held])
+        self.process = subprocess.Popen(["rt", *words], cwd=folder, stdin=subprocess.DEVNULL,
+                                        stdout=self.log, stderr=self.log, pass_fds=[held])
 
     def was_killed(self) -> Any:
         """Tells whether it was killed, or ended as rattle was."""
@@ -133,8 +142,11 @@ class Progress:
     """One line that is rewritten on a terminal, and elsewhere one for each crate."""
 
     def __init__(self, count: Any) -> None:
-        self.count, self.done, self.start, self.is_terminal = count, 0, time.monotonic(), sys.stderr.isatty()
-        self.say("smemu: building the emulator; each crate is proved first, which takes some 20 minutes on four cores; it may be interrupted, and the next start goes on\n")
+        self.count, self.done, self.start, self.is_terminal = (count, 0, time.monotonic(),
+                                                               sys.stderr.isatty())
+        self.say("smemu: building the emulator; each crate is proved first, "
+                 "which takes some 20 minutes on four cores; it may be interrupted, "
+                 "and the next start goes on\n")
 
     def say(self, text: Any) -> None:
         sys.stderr.write(text)
@@ -146,13 +158,15 @@ class Progress:
 
     def show(self, running: Any) -> None:
         if self.is_terminal:
-            line = f"smemu: {self.done} of {self.count} crates proved after {self.time()}, now {', '.join(running)}"
+            line = (f"smemu: {self.done} of {self.count} crates proved "
+                    f"after {self.time()}, now {', '.join(running)}")
             self.say(f"\r{line[:shutil.get_terminal_size().columns - 1]}\033[K")
 
     def proved(self, name: Any) -> None:
         self.done += 1
         if not self.is_terminal:
-            self.say(f"smemu: {self.done} of {self.count} crates proved after {self.time()}: {name}\n")
+            self.say(
+                f"smemu: {self.done} of {self.count} crates proved after {self.time()}: {name}\n")
 
     def end(self, text: Any) -> None:
         self.say("\r\033[K" * self.is_terminal + f"smemu: {text}\n")
@@ -162,13 +176,15 @@ def build(needed: Any, running: Any, progress: Any, held: Any) -> Any:
     """Proves the crates, and links the program. The answer is what went wrong."""
     left, most, most_lines = list(needed), slots(), urgency(needed)
     while left or running:
-        ready = sorted((it for it in left if not {*USES[it]} & {*left, *running}), key=most_lines.get, reverse=True)
+        ready = sorted((it for it in left if not {*USES[it]} & {*left, *running}),
+                       key=most_lines.get, reverse=True)
         for name in ready[:most - len(running)]:
             left.remove(name)
             if name == PROGRAM:
                 running[name] = Run(held, CRATES / name, "run", "--jobs", "1", "--", "--version")
                 continue
-            # each job reads all that stands below the crate, so more than one serves only where nothing does
+            # each job reads all that stands below the crate, so more than one serves only where
+            # nothing does
             jobs = 1 if USES[name] else min(most, 2)
             running[name] = Run(held, make_tree(name), "lib", "--jobs", str(jobs))
         progress.show(running)
@@ -203,5 +219,6 @@ def main() -> Any:
         run.process.terminate()
         run.process.wait()
         take_back(name)
-    progress.end(f"not built, after {progress.time()}: {fault}" if fault else f"built in {progress.time()}")
+    progress.end(f"not built, after {progress.time()}: {fault}" if fault
+                 else f"built in {progress.time()}")
     return 1 if fault else 0

@@ -1,10 +1,13 @@
 """Tells which options of compilers make programs that smemu runs: the table of docs/FROM_C.md.
 
-    tools/smemu-tools compilers [--qemu QEMU] [--smemu SMEMU] [--kind scalar|vector|stream] [--words] [--jobs N]
+    tools/smemu-tools compilers [--qemu QEMU] [--smemu SMEMU] [--kind scalar|vector|stream]
+    [--words] [--jobs N]
 
-Compiles each routine of bench/c by each compiler that is installed and each set of options, and links it alone. A program counts as loaded
-where `smemu dis` takes it; one that is loaded runs at 128, 512 and 2048 bits, and its output and its exit status are compared with
-those of QEMU (10 for streaming code). With --words the mnemonics of the words that were refused follow, with the number of programs.
+Compiles each routine of bench/c by each compiler that is installed and each set of options, and
+links it alone. A program counts as loaded where `smemu dis` takes it; one that is loaded runs at
+128, 512 and 2048 bits, and its output and its exit status are compared with those of QEMU (10 for
+streaming code). With --words the mnemonics of the words that were refused follow, with the number
+of programs.
 """
 from __future__ import annotations
 
@@ -29,7 +32,8 @@ BOTH = (CLANG, GCC)
 SETS = [
     ("scalar", BOTH, "-O2"),
     ("scalar", BOTH, "-O3 -march=armv8.1-a+sve2"),
-    *(("scalar", BOTH, f"-{level} -march=armv8.1-a -mgeneral-regs-only") for level in ("O0", "O1", "O2", "O3", "Os")),
+    *(("scalar", BOTH, f"-{level} -march=armv8.1-a -mgeneral-regs-only")
+      for level in ("O0", "O1", "O2", "O3", "Os")),
     ("scalar", (CLANG,), "-O2 -march=armv8.1-a+sve2 -mno-implicit-float"),
     ("scalar", (GCC,), "-O2 -march=armv8.1-a+sve2 -fno-tree-vectorize"),
     ("scalar", BOTH, "-O2 -march=armv8-a -mgeneral-regs-only"),
@@ -44,7 +48,9 @@ SETS = [
     ("stream", (CLANG,), "-O2 -march=armv9-a+sme -DCALLED=0 -mno-implicit-float"),
     ("stream", (CLANG,), "-O2 -march=armv9-a+sme -DCALLED=1 -mno-implicit-float"),
     ("stream", (CLANG,), "-O2 -march=armv8.1-a+sme+sme-i16i64 -DCALLED=1"),
-    *(("stream", (CLANG,), f"-{level} -march=armv8.1-a+sme+sme-i16i64 -DCALLED=1 -mno-implicit-float") for level in ("O0", "O1", "O2", "O3", "Os")),
+    *(("stream", (CLANG,),
+       f"-{level} -march=armv8.1-a+sme+sme-i16i64 -DCALLED=1 -mno-implicit-float")
+      for level in ("O0", "O1", "O2", "O3", "Os")),
 ]
 
 
@@ -54,7 +60,8 @@ def said(*words: Any) -> Any:
 
 def refused_words(smemu: Any, program: Any) -> Any:
     """The mnemonics of the words that are refused."""
-    lines = said(sys.executable, str(TOOL), "refused", program, "--smemu", smemu).stdout.splitlines()
+    lines = said(sys.executable, str(TOOL), "refused", program, "--smemu",
+                 smemu).stdout.splitlines()
     return [line.split(": ", 1)[1].split()[0] for line in lines if line.startswith("0x")]
 
 
@@ -62,10 +69,12 @@ def trial(asked: Any, folder: Any, kind: Any, compiler: Any, options: Any, numbe
     """What became of a routine: a word, and the mnemonics that were refused."""
     name = f"{folder}/{kind}-{number}-{abs(hash((compiler, options)))}"
     command = [*compiler, *ALWAYS.split()]
-    if said(*command, *options.split(), f"-DROUTINE={number}", "-c", str(SOURCES / f"{kind}.c"), "-o", f"{name}.o").returncode:
+    if said(*command, *options.split(), f"-DROUTINE={number}", "-c", str(SOURCES / f"{kind}.c"),
+            "-o", f"{name}.o").returncode:
         return "not compiled", []
     objects = [f"{folder}/start.o", *[f"{folder}/za.o"] * (kind == "stream"), f"{name}.o"]
-    if said(LINKERS[compiler], "-static", "-z", "max-page-size=4096", "-o", name, *objects).returncode:
+    if said(LINKERS[compiler], "-static", "-z", "max-page-size=4096", "-o", name,
+            *objects).returncode:
         return "not linked", []
     if said(asked.smemu, "dis", name).returncode:
         return "refused", refused_words(asked.smemu, name) if asked.words else []
@@ -76,12 +85,13 @@ def trial(asked: Any, folder: Any, kind: Any, compiler: Any, options: Any, numbe
         machine = f"max,sve-default-vector-length={bits // 8},sme-default-vector-length={bits // 8}"
         beside = subprocess.run([asked.qemu, "-cpu", machine, name], capture_output=True)
         if (stop, output) != (f"exited {beside.returncode}", beside.stdout):
-            return f"differs at {bits}: {stop} {output.hex()} and {beside.returncode} {beside.stdout.hex()}", []
+            return (f"differs at {bits}: {stop} {output.hex()} and {beside.returncode} "
+                    f"{beside.stdout.hex()}", [])
     return "as QEMU", []
 
 
 def main() -> None:
-    parser = argparse.ArgumentParser(description=__doc__.split("\n")[0])
+    parser = argparse.ArgumentParser(description=__doc__.partition("\n\n")[0])
     parser.add_argument("--qemu", default="qemu-aarch64")
     parser.add_argument("--smemu", default=str(TOP / "smemu"))
     parser.add_argument("--kind", choices=("scalar", "vector", "stream"))
@@ -89,9 +99,11 @@ def main() -> None:
     parser.add_argument("--jobs", type=int, default=os.cpu_count())
     asked = parser.parse_args()
     compilers = [it for it in BOTH if shutil.which(it[0])]
-    for words in [(it[0], "--version") for it in compilers] + [(asked.qemu, "--version"), (asked.smemu, "--version")]:
+    for words in [(it[0], "--version") for it in compilers] + [(asked.qemu, "--version"),
+                                                               (asked.smemu, "--version")]:
         print(said(*words).stdout.splitlines()[0])
-    counts = {kind: len(re.findall(r"ROUTINE == ", (SOURCES / f"{kind}.c").read_text())) for kind in ("scalar", "vector", "stream")}
+    counts = {kind: len(re.findall(r"ROUTINE == ", (SOURCES / f"{kind}.c").read_text()))
+              for kind in ("scalar", "vector", "stream")}
     refused = collections.defaultdict(set)
     with tempfile.TemporaryDirectory() as folder, concurrent.futures.ThreadPoolExecutor(asked.jobs) as pool:
         said(*compilers[0], "-c", str(TOP / "examples/c/start.s"), "-o", f"{folder}/start.o")
@@ -99,10 +111,12 @@ def main() -> None:
         for kind, having, options in (it for it in SETS if asked.kind in (None, it[0])):
             for compiler in (it for it in having if it in compilers):
                 numbers = range(1, counts[kind] + 1)
-                found = list(pool.map(lambda number: trial(asked, folder, kind, compiler, options, number), numbers))
+                found = list(pool.map(lambda number: trial(asked, folder, kind, compiler, options,
+                                                           number), numbers))
                 linked = [it for it in found if not it[0].startswith("not")]
                 runs = [it for it in found if it[0] == "as QEMU"]
-                print(f"| {kind} | {compiler[0]} | `{options}` | {len(runs)} of {len(linked)} |", flush=True)
+                print(f"| {kind} | {compiler[0]} | `{options}` | {len(runs)} of {len(linked)} |",
+                      flush=True)
                 for number, (word, mnemonics) in zip(numbers, found):
                     if word not in ("as QEMU", "refused"):
                         print(f"  {kind} {number}: {word}")

@@ -1,4 +1,5 @@
-"""Checks the scripts by ruff and mypy, each where it is on the PATH, with the settings of pyproject.toml.
+"""Checks the scripts by ruff and mypy, each where it is on the PATH, with the settings of
+pyproject.toml.
 
     tools/smemu-tools lint
 

@@ -1,9 +1,10 @@
-"""Writes the table of mnemonics that docs/INSTRUCTIONS.md ends with: each name that the assembler reads, a text of it, that text's
-word, and the groups whose rows its words have.
+"""Writes the table of mnemonics that docs/INSTRUCTIONS.md ends with: each name that the assembler
+reads, a text of it, that text's word, and the groups whose rows its words have.
 
     tools/smemu-tools mnemonics
 
-The words and texts are those of crates/smemu_rows/data, nearly all of which other tools gave; the rows are those of the two tables.
+The words and texts are those of crates/smemu_rows/data, nearly all of which other tools gave; the
+rows are those of the two tables.
 """
 from __future__ import annotations
 
@@ -19,7 +20,8 @@ ROW = re.compile(r"(0x\w{8}) (0x\w{8}) (G\d+)\(")
 def rows() -> list[tuple[int, int, str]]:
     """Mask, value and group of each row."""
     tables = [TOP / "crates" / table / "src" / "rows.rt" for table in ("a64_table", "sve_table")]
-    return [(int(mask, 16), int(value, 16), group) for table in tables for mask, value, group in ROW.findall(table.read_text())]
+    return [(int(mask, 16), int(value, 16), group) for table in tables
+            for mask, value, group in ROW.findall(table.read_text())]
 
 
 def texts() -> Iterator[tuple[int, str, bool]]:

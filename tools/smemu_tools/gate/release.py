@@ -1,19 +1,22 @@
-"""Makes the released program, which `./smemu` runs where none is built: release/smemu_cli.xz, and release/SHA256SUMS, which names
-the SHA-256 of that program, of its packed file and of each source that it was made of, as `sha256sum --check` reads it.
+"""Makes the released program, which `./smemu` runs where none is built: release/smemu_cli.xz, and
+release/SHA256SUMS, which names the SHA-256 of that program, of its packed file and of each source
+that it was made of, as `sha256sum --check` reads it.
 
     tools/smemu-tools release
     tools/smemu-tools release --check [PROGRAM]
     tools/smemu-tools release --unpack
 
-Packs crates/smemu_cli/out/smemu_cli, as `./smemu --build` has made it: it must be there, and no source may be newer. Two runs write the
-same bytes.
+Packs crates/smemu_cli/out/smemu_cli, as `./smemu --build` has made it: it must be there, and no
+source may be newer. Two runs write the same bytes.
 
---check is for the end of the gate: where the sources that stand here are exactly those of the release, PROGRAM must be the released one
-byte for byte. Where it is not named it is what was built here, or where nothing was, what the first start of ./smemu has unpacked. A
-release of other sources is no fault, and is told.
+--check is for the end of the gate: where the sources that stand here are exactly those of the
+release, PROGRAM must be the released one byte for byte. Where it is not named it is what was built
+here, or where nothing was, what the first start of ./smemu has unpacked. A release of other sources
+is no fault, and is told.
 
---unpack is for ./smemu, and puts the program into release/out, if it is of exactly these sources. It reads what the system says of each
-of them, and keeps it there as `state`: while that holds no source has changed, and no start need ask again.
+--unpack is for ./smemu, and puts the program into release/out, if it is of exactly these sources.
+It reads what the system says of each of them, and keeps it there as `state`: while that holds no
+source has changed, and no start need ask again.
 """
 from __future__ import annotations
 
@@ -32,7 +35,8 @@ from smemu_tools.gate.build import CRATES, PROGRAM, TOP, below
 
 RELEASE = TOP / "release"
 OUT = RELEASE / "out"
-BUILT, PACKED, SUMS = CRATES / PROGRAM / "out" / PROGRAM, RELEASE / f"{PROGRAM}.xz", RELEASE / "SHA256SUMS"
+BUILT, PACKED, SUMS = (CRATES / PROGRAM / "out" / PROGRAM, RELEASE / f"{PROGRAM}.xz",
+                       RELEASE / "SHA256SUMS")
 # the packed file has fewer bytes
 MOST = 400_000
 # no two changes of a file that are so many seconds apart have the same time
@@ -51,13 +55,17 @@ def shown(path: pathlib.Path) -> Any:
 
 
 def files_under(folder: pathlib.Path) -> list[pathlib.Path]:
-    return [pathlib.Path(place) / name for place, _, names in os.walk(folder, followlinks=True) for name in names]
+    return [pathlib.Path(place) / name for place, _, names in os.walk(folder, followlinks=True)
+            for name in names]
 
 
 def sources() -> list[str]:
     """The names of all files that the build reads."""
-    parts = [CRATES / crate / part for crate in [*below(PROGRAM), PROGRAM] for part in ("src", "specs", "proofs")]
-    return sorted(map(name_of, [TOP / "crates.txt", TOP / "HANDLES", *(file for part in parts for file in files_under(part))]))
+    parts = [CRATES / crate / part for crate in [*below(PROGRAM), PROGRAM]
+             for part in ("src", "specs", "proofs")]
+    return sorted(map(name_of,
+                      [TOP / "crates.txt", TOP / "HANDLES",
+                       *(file for part in parts for file in files_under(part))]))
 
 
 def digest_of(content: bytes) -> str:
@@ -70,15 +78,19 @@ def digests() -> dict[str, str]:
 
 
 def stated() -> tuple[str, str, dict[str, str]]:
-    """The SHA-256 of the released program, that of its packed file, and those of its sources by their names."""
-    found = {name: digest for digest, _, name in (line.partition("  ") for line in SUMS.read_text().splitlines())}
+    """The SHA-256 of the released program, that of its packed file, and those of its sources by
+    their names."""
+    found = {name: digest
+             for digest, _, name
+             in (line.partition("  ") for line in SUMS.read_text().splitlines())}
     return found.pop(name_of(BUILT), None), found.pop(name_of(PACKED), None), found
 
 
 def packed(content: bytes) -> bytes:
     """A packed file, which xz unpacks too. Nothing in it is of the machine or the time."""
     import lzma
-    filters: list[dict[str, int]] = [{"id": lzma.FILTER_X86}, {"id": lzma.FILTER_LZMA2, "preset": 9 | lzma.PRESET_EXTREME}]
+    filters: list[dict[str, int]] = [{"id": lzma.FILTER_X86},
+                                     {"id": lzma.FILTER_LZMA2, "preset": 9 | lzma.PRESET_EXTREME}]
     return lzma.compress(content, lzma.FORMAT_XZ, lzma.CHECK_CRC32, filters=filters)
 
 
@@ -87,7 +99,8 @@ def unpacked(content: bytes) -> bytes:
         import lzma
     except ImportError:
         # a Python that was built without it
-        return subprocess.run(["xz", "--decompress", "--stdout"], input=content, stdout=subprocess.PIPE, check=True).stdout
+        return subprocess.run(["xz", "--decompress", "--stdout"], input=content,
+                              stdout=subprocess.PIPE, check=True).stdout
     try:
         return lzma.decompress(content)
     except lzma.LZMAError as fault:
@@ -95,7 +108,8 @@ def unpacked(content: bytes) -> bytes:
 
 
 def released(program: str, packed_file: str) -> bytes:
-    """The released program, whose SHA-256 must be this one, and that of its packed file the other."""
+    """The released program, whose SHA-256 must be this one, and that of its packed file the
+    other."""
     content = PACKED.read_bytes()
     if digest_of(content) != packed_file:
         raise ValueError(f"{name_of(PACKED)} is not the file that {name_of(SUMS)} states")
@@ -112,16 +126,20 @@ def make() -> int:
     of, made = digests(), BUILT.stat().st_mtime_ns
     newer = [name for name in of if (TOP / name).stat().st_mtime_ns > made]
     if newer:
-        sys.exit(f"release: {newer[0]} is newer than {name_of(BUILT)}; ./smemu --build makes it anew")
+        sys.exit(
+            f"release: {newer[0]} is newer than {name_of(BUILT)}; ./smemu --build makes it anew")
     program = BUILT.read_bytes()
     content = packed(program)
     if len(content) >= MOST or unpacked(content) != program:
-        sys.exit(f"release: the program is packed wrongly, or into {len(content)} bytes, which have to be fewer than {MOST}")
+        sys.exit(f"release: the program is packed wrongly, or into {len(content)} "
+                 f"bytes, which have to be fewer than {MOST}")
     RELEASE.mkdir(exist_ok=True)
     PACKED.write_bytes(content)
-    lines = [(digest_of(program), name_of(BUILT)), (digest_of(content), name_of(PACKED)), *((of[name], name) for name in of)]
+    lines = [(digest_of(program), name_of(BUILT)), (digest_of(content), name_of(PACKED)),
+             *((of[name], name) for name in of)]
     SUMS.write_text("".join(f"{digest}  {name}\n" for digest, name in lines))
-    print(f"release: {len(program)} bytes, packed into {len(content)}, of {len(of)} sources; its SHA-256 is {digest_of(program)}")
+    print(f"release: {len(program)} bytes, packed into {len(content)}, of {len(of)} "
+          f"sources; its SHA-256 is {digest_of(program)}")
     return 0
 
 
@@ -147,7 +165,8 @@ def check(path: pathlib.Path) -> int:
     except FAULTS as fault:
         print(f"release: {fault}")
         return 1
-    how = "the released program byte for byte" if agree else "not the released program, which is of the same sources"
+    how = ("the released program byte for byte" if agree
+           else "not the released program, which is of the same sources")
     print(f"release: {shown(path)} is {how}")
     return 0 if agree else 1
 
@@ -165,7 +184,8 @@ def put(path: pathlib.Path, content: bytes, mode: int) -> None:
 
 def is_whole(state: bytes, names: dict[str, str]) -> bool:
     """Tells whether a state has a line for each of these sources."""
-    return {line.split(b" ", 4)[-1] for line in state.splitlines()} >= {os.fsencode(TOP / name) for name in names}
+    return {line.split(b" ", 4)[-1] for line in state.splitlines()} >= {os.fsencode(TOP / name)
+                                                                        for name in names}
 
 
 def unpack_under_lock(state: bytes) -> bool:
@@ -181,7 +201,8 @@ def unpack_under_lock(state: bytes) -> bool:
             # it is of the program that goes
             kept.unlink()
         put(file, content, 0o755)
-        print("smemu: this is the released program, of exactly these sources; ./smemu --build proves and builds it here", file=sys.stderr)
+        print("smemu: this is the released program, of exactly these sources; "
+              "./smemu --build proves and builds it here", file=sys.stderr)
     if is_whole(state, of):
         # where nothing can be written the next start asks again
         with contextlib.suppress(OSError):
@@ -205,7 +226,8 @@ def unpack() -> int:
 def main() -> int:
     words = argparse.ArgumentParser(description=__doc__.partition("\n\n")[0])
     what = words.add_mutually_exclusive_group()
-    what.add_argument("--check", nargs="?", const=None, default=False, type=pathlib.Path, metavar="PROGRAM")
+    what.add_argument("--check", nargs="?", const=None, default=False, type=pathlib.Path,
+                      metavar="PROGRAM")
     what.add_argument("--unpack", action="store_true")
     asked = words.parse_args()
     if asked.unpack:

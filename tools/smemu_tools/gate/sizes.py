@@ -1,10 +1,12 @@
-"""Prints how large each crate is: the lines of its sources, definitions and proofs that are not blank, and its wrong bodies, of must-fail/ and of
-wrong/. With --trusted the lines of the definitions that a reader of the claims must trust, part by part of docs/SPECIFICATION.md.
+"""Prints how large each crate is: the lines of its sources, definitions and proofs that are not
+blank, and its wrong bodies, of must-fail/ and of wrong/. With --trusted the lines of the
+definitions that a reader of the claims must trust, part by part of docs/SPECIFICATION.md.
 
     tools/smemu-tools sizes [--trusted]
 
-Trusted are the lines of the files that its parts 1 to 9 list, without blank lines, comments, imports and attributes. Of a source file that is
-data (rows, fields, texts) all such lines count; of one whose types alone are cited, its types.
+Trusted are the lines of the files that its parts 1 to 9 list, without blank lines, comments,
+imports and attributes. Of a source file that is data (rows, fields, texts) all such lines count; of
+one whose types alone are cited, its types.
 """
 from __future__ import annotations
 
@@ -21,12 +23,15 @@ def sizes() -> Iterator[list[int | str]]:
     """A row for each crate: its name, and five numbers."""
     for crate in sorted(path for path in (TOP / "crates").iterdir() if (path / "src").is_dir()):
         parts = (("src", "*.rt"), ("specs", "*.antt"), ("proofs", "*.antt"))
-        lines = [sum(bool(line.strip()) for path in (crate / part).rglob(files) for line in path.read_text().splitlines()) for part, files in parts]
-        yield [crate.name, *lines, *(len(list((crate / part).glob("*.edit"))) for part in ("must-fail", "wrong"))]
+        lines = [sum(bool(line.strip()) for path in (crate / part).rglob(files)
+                     for line in path.read_text().splitlines()) for part, files in parts]
+        yield [crate.name, *lines,
+               *(len(list((crate / part).glob("*.edit"))) for part in ("must-fail", "wrong"))]
 
 
 def files_of(cell: str) -> Iterator[Any]:
-    """The files that a row's first cell names: a file without a folder stands in that of the one before it."""
+    """The files that a row's first cell names: a file without a folder stands in that of the one
+    before it."""
     folder = crate = ""
     for name in re.findall(r"[\w/.]+\.(?:antt|rt)", cell):
         parts = name.split("/")
@@ -41,7 +46,8 @@ def parts() -> Iterator[tuple[str, list[Any]]]:
     """The title of each part of docs/SPECIFICATION.md, and the files that it lists."""
     for part in (TOP / "docs" / "SPECIFICATION.md").read_text().split("\n## ")[1:]:
         title, _, body = part.partition("\n")
-        rows = [row for row in body.splitlines() if row.startswith("| ") and not row.startswith("| File")]
+        rows = [row for row in body.splitlines()
+                if row.startswith("| ") and not row.startswith("| File")]
         yield title, [path for row in rows for path in files_of(row.split("|")[1])]
 
 
@@ -75,7 +81,8 @@ def main() -> None:
     if words.parse_args().trusted:
         print(*trusted(), sep="\n")
         return
-    print("| Crate | Sources | Definitions | Proofs | Tried by the gate | Other wrong bodies |\n|---|---|---|---|---|---|")
+    print("| Crate | Sources | Definitions | Proofs | Tried by the gate | "
+          "Other wrong bodies |\n|---|---|---|---|---|---|")
     rows = list(sizes())
     total: list[Any] = ["all", *map(sum, zip(*(row[1:] for row in rows)))]
     for name, *numbers in [*rows, total]:

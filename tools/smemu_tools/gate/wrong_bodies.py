@@ -1,16 +1,20 @@
-"""Tries the wrong bodies that the gate does not: those of crates/NAME/wrong/*.edit, which have the form of a must-fail edit.
+"""Tries the wrong bodies that the gate does not: those of crates/NAME/wrong/*.edit, which have the
+form of a must-fail edit.
 
     tools/smemu-tools wrong-bodies [--only WORD] [--anew] [NAME ..]
     tools/smemu-tools wrong-bodies --read [NAME ..]
 
-Copies the crates, with what checks kept in out/, to a folder of its own, puts the wrong bodies of these crates (of all, with no NAME)
-into must-fail/ there in place of those that the gate tries, and runs `rt must-fail`. The prover must refuse each: the status is 0 where
-it does. --only takes those whose name has WORD, and --anew also tries what an earlier run on this machine tried.
+Copies the crates, with what checks kept in out/, to a folder of its own, puts the wrong bodies of
+these crates (of all, with no NAME) into must-fail/ there in place of those that the gate tries, and
+runs `rt must-fail`. The prover must refuse each: the status is 0 where it does. --only takes those
+whose name has WORD, and --anew also tries what an earlier run on this machine tried.
 
---read tries none: it says in a second which wrong bodies, of must-fail/ too, cannot be applied to the sources as they stand.
+--read tries none: it says in a second which wrong bodies, of must-fail/ too, cannot be applied to
+the sources as they stand.
 
-A crate that was checked here (`rt check`) is not proved again; any other is proved first, and so are the crates below it.
-The folder is made where TMPDIR says: on another disk than this one what is kept is copied and not linked.
+A crate that was checked here (`rt check`) is not proved again; any other is proved first, and so
+are the crates below it. The folder is made where TMPDIR says: on another disk than this one what is
+kept is copied and not linked.
 """
 from __future__ import annotations
 
@@ -39,7 +43,8 @@ def bodies_of(crate: str, folder: str, word: str = "") -> list[pathlib.Path]:
 
 
 class Edit:
-    """A wrong body: pairs of an old and a new text, each in a file. What it may hold is what `rt must-fail` reads."""
+    """A wrong body: pairs of an old and a new text, each in a file. What it may hold is what `rt
+    must-fail` reads."""
 
     def __init__(self, path: pathlib.Path) -> None:
         self.pairs, self.fault = [], None
@@ -53,7 +58,9 @@ class Edit:
                 if not file or not old:
                     self.fault = "a 'new:' line has no 'file:' and 'old:' line before it"
                     return
-                self.pairs.append((file, old, line[len("new: "):] if line.startswith("new: ") else line[len("new:"):]))
+                self.pairs.append((file, old,
+                                   line[len("new: "):] if line.startswith("new: ")
+                                   else line[len("new:"):]))
                 old = None
         if not self.pairs:
             self.fault = "it has no 'old:' and 'new:' pair"
@@ -87,7 +94,8 @@ def read(bodies: list[pathlib.Path]) -> bool:
 
 def with_below(names: Any) -> Any:
     """The crates of these names and all below them, by crates.txt."""
-    rows = [line.partition("#")[0].partition(":") for line in (TOP / "crates.txt").read_text().splitlines()]
+    rows = [line.partition("#")[0].partition(":")
+            for line in (TOP / "crates.txt").read_text().splitlines()]
     uses = {name.split()[0]: libraries.split() for name, _, libraries in rows if name.strip()}
     found, left = set(), list(names)
     while left:
@@ -99,7 +107,8 @@ def with_below(names: Any) -> Any:
 
 
 def link(source: Any, target: Any) -> Any:
-    """Copies a file, what was proved by a link: rt replaces such a file, and never writes into it."""
+    """Copies a file, what was proved by a link: rt replaces such a file, and never writes into
+    it."""
     if source.endswith(".oantt") or "/rlib/" in source:
         try:
             return os.link(source, target)
@@ -109,7 +118,8 @@ def link(source: Any, target: Any) -> Any:
 
 
 def copy_crates(room: Any, bodies: Any) -> None:
-    """Makes the scratch copy: the crates, with what is kept of those that are needed, and only these bodies in must-fail/."""
+    """Makes the scratch copy: the crates, with what is kept of those that are needed, and only
+    these bodies in must-fail/."""
     needed = with_below(bodies)
     for name in ("crates.txt", "HANDLES"):
         shutil.copy2(TOP / name, room / name)
@@ -119,7 +129,8 @@ def copy_crates(room: Any, bodies: Any) -> None:
         kept = [f"out/{it}" for it in KEPT if crate.name in needed]
         for part in ("src", "specs", "proofs", *kept):
             if (crate / part).is_dir():
-                shutil.copytree(crate / part, room / "crates" / crate.name / part, copy_function=link)
+                shutil.copytree(crate / part, room / "crates" / crate.name / part,
+                                copy_function=link)
         for edit in bodies.get(crate.name, ()):
             to = room / "crates" / crate.name / IN_GATE
             to.mkdir(exist_ok=True)
@@ -132,7 +143,8 @@ def try_all(bodies: Any, anew: Any) -> Any:
     with tempfile.TemporaryDirectory(prefix="wrong-bodies-") as room:
         copy_crates(pathlib.Path(room), bodies)
         words = ["rt", "must-fail", *["--anew"] * anew, *bodies]
-        how: dict[str, Any] = {"cwd": room, "stdin": subprocess.DEVNULL, "stdout": subprocess.PIPE, "stderr": subprocess.STDOUT}
+        how: dict[str, Any] = {"cwd": room, "stdin": subprocess.DEVNULL, "stdout": subprocess.PIPE,
+                               "stderr": subprocess.STDOUT}
         ran = subprocess.run(words, **how, text=True, errors="replace")
     print(ran.stdout.replace(f"{room}/", ""), end="")
     refused = ran.stdout.count(": refused, as it must be")
@@ -141,7 +153,7 @@ def try_all(bodies: Any, anew: Any) -> Any:
 
 
 def main() -> Any:
-    words = argparse.ArgumentParser(description=__doc__.splitlines()[0])
+    words = argparse.ArgumentParser(description=__doc__.partition("\n\n")[0])
     words.add_argument("names", nargs="*", metavar="NAME")
     words.add_argument("--only", default="", metavar="WORD")
     words.add_argument("--anew", action="store_true")
@@ -153,7 +165,8 @@ def main() -> Any:
         sys.exit(f"wrong_bodies: there is no crate {lost[0]}")
     names = words.names or known
     if words.read:
-        return not read([it for name in names for folder in (IN_GATE, BESIDE) for it in bodies_of(name, folder)])
+        return not read([it for name in names for folder in (IN_GATE, BESIDE)
+                         for it in bodies_of(name, folder)])
     bodies = {name: found for name in names if (found := bodies_of(name, BESIDE, words.only))}
     if not bodies:
         sys.exit("wrong_bodies: there is no such wrong body")

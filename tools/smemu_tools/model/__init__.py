@@ -1,1 +1,2 @@
-"""What says by other means than the emulator's what it is to answer. Nothing here imports what users start."""
+"""What says by other means than the emulator's what it is to answer. Nothing here imports what
+users start."""

@@ -1,8 +1,10 @@
-"""Prints the report that a program file is to have, by an interpreter of its own that shares nothing with the emulator.
+"""Prints the report that a program file is to have, by an interpreter of its own that shares
+nothing with the emulator.
 
     tools/smemu-tools expected FILE [VL [SVL]]
 
-It knows the instructions that the programs of this repository use, and the calls of both kernels; each other word is undefined to it. One thread makes all operations on the shared words.
+It knows the instructions that the programs of this repository use, and the calls of both kernels;
+each other word is undefined to it. One thread makes all operations on the shared words.
 """
 from __future__ import annotations
 
@@ -60,7 +62,8 @@ def signed(value: int, bits: int) -> int:
 
 
 class Thread:
-    def __init__(self, file: bytes, budget: int, vl: int, svl: int, interval: int, number: int = 0, threads: int = 1, kernel: int = KERNEL) -> None:
+    def __init__(self, file: bytes, budget: int, vl: int, svl: int, interval: int, number: int = 0,
+                 threads: int = 1, kernel: int = KERNEL) -> None:
         self.number, self.threads, self.kernel = number, threads, kernel
         self.pages, self.budget, self.interval = {}, budget, interval
         self.tpidr = self.tpidr2 = self.held = self.mask = self.depth = self.pending = self.turns = 0
@@ -68,7 +71,8 @@ class Thread:
         self.vectors, self.matrix, self.handlers = Vectors(vl // 8), Matrix(vl // 8, svl // 8), {}
         at, count = struct.unpack_from("<Q", file, 32)[0], struct.unpack_from("<H", file, 56)[0]
         for i in range(count):
-            kind, flags, offset, address, _, size, memory, _ = struct.unpack_from("<IIQQQQQQ", file, at + 56 * i)
+            kind, flags, offset, address, _, size, memory, _ = struct.unpack_from("<IIQQQQQQ", file,
+                                                                                  at + 56 * i)
             if kind == 1 and memory:
                 for number in range(address // 4096, (address + memory - 1) // 4096 + 1):
                     page = self.page(number, 0)
@@ -100,7 +104,8 @@ class Thread:
             out.append(page[1][at % 4096])
         return bytes(out)
 
-    def check(self, address: int, count: int, kind: str, base: int | None = None, aligned: bool = False) -> None:
+    def check(self, address: int, count: int, kind: str, base: int | None = None,
+              aligned: bool = False) -> None:
         if base == 31 and self.sp % 16:
             raise Raised("spalign", "")
         if aligned and address % count:
@@ -267,13 +272,16 @@ class Thread:
     def execute(self, word: int) -> int:
         """The address of the next instruction; None where the word is undefined."""
         wide, rd, rn, after = word >> 31, word & 31, word >> 5 & 31, self.pc + 4
-        if word & 0x7F800000 in (0x52800000, 0x72800000, 0x12800000) and (wide or not word >> 22 & 1):
+        if word & 0x7F800000 in (0x52800000, 0x72800000,
+                                 0x12800000) and (wide or not word >> 22 & 1):
             return self.move_wide(word, wide, rd) or after
         if word & 0x1F800000 == 0x11000000:
             second = (word >> 10 & 0xFFF) << (12 if word >> 22 & 1 else 0)
-            return self.add(word, wide, rd, self.sp if rn == 31 else self.x[rn], second, True) or after
+            return self.add(word, wide, rd, self.sp if rn == 31 else self.x[rn], second,
+                            True) or after
         if word & 0x1FE0FC00 == 0x0B000000:
-            return self.add(word, wide, rd, self.read(rn), self.read(word >> 16 & 31), False) or after
+            return self.add(word, wide, rd, self.read(rn), self.read(word >> 16 & 31),
+                            False) or after
         if word & 0x7FE0FC00 == 0x2A000000:
             value = self.read(rn) | self.read(word >> 16 & 31)
             self.write(rd, value & (MASK if wide else 0xFFFFFFFF), False)
@@ -291,19 +299,23 @@ class Thread:
             return self.pc + 4 * signed(word >> 5, 19) if self.holds(word & 15) else after
         if word & 0x7E000000 == 0x34000000:
             value = self.read(rd) if wide else self.read(rd) & 0xFFFFFFFF
-            return self.pc + 4 * signed(word >> 5, 19) if (value != 0) == bool(word >> 24 & 1) else after
+            return self.pc + 4 * signed(word >> 5,
+                                        19) if (value != 0) == bool(word >> 24 & 1) else after
         if word & 0x7C000000 == 0x14000000:
             if wide:
                 self.x[30] = after & MASK
             return self.pc + 4 * signed(word, 26)
-        if word & 0xFFBFFC1F == 0xD61F0000 or word & 0xFFFFFC1F == 0xD65F0000 or word & 0xFFFFFC1F == 0xD63F0000:
+        if (word & 0xFFBFFC1F == 0xD61F0000 or word & 0xFFFFFC1F == 0xD65F0000
+                or word & 0xFFFFFC1F == 0xD63F0000):
             target = self.read(rn)
             if word & 0x00600000 == 0x00200000:
                 self.x[30] = after & MASK
             return target
         if word & 0x1F000000 == 0x10000000:
             distance = signed((word >> 5 & 0x7FFFF) << 2 | word >> 29 & 3, 21)
-            self.write(rd, ((self.pc & ~4095) + 4096 * distance if wide else self.pc + distance) & MASK, False)
+            self.write(rd,
+                       ((self.pc & ~4095) + 4096 * distance if wide else self.pc + distance) & MASK,
+                       False)
             return after
         if word & 0xFFFFF01F == 0xD503201F:
             return after
@@ -343,16 +355,19 @@ class Thread:
         a, b, subtracts, sets = a % size, b % size, word >> 30 & 1, word >> 29 & 1
         result = (a - b if subtracts else a + b) % size
         if sets:
-            whole = signed(a, bits) - signed(b, bits) if subtracts else signed(a, bits) + signed(b, bits)
+            whole = signed(a, bits) - signed(b, bits) if subtracts else signed(a, bits) + signed(
+                b, bits)
             carry = a >= b if subtracts else a + b >= size
-            self.flags = [result >> (bits - 1), int(result == 0), int(carry), int(whole != signed(result, bits))]
+            self.flags = [result >> (bits - 1), int(result == 0), int(carry),
+                          int(whole != signed(result, bits))]
         self.write(rd, result, sp and not sets)
 
     def access(self, word: int, rt: int, rn: int, after: int) -> int | None:
         size = 1 << (word >> 30)
         base = self.sp if rn == 31 else self.x[rn]
         if word & 0x3F000000 == 0x39000000:
-            return self.transfer(word, size, (base + (word >> 10 & 0xFFF) * size) & MASK, rt, rn, after)
+            return self.transfer(word, size, (base + (word >> 10 & 0xFFF) * size) & MASK, rt, rn,
+                                 after)
         if word & 0x3F200000 == 0x38000000 and word >> 10 & 3 != 2:
             moved = (base + signed(word >> 12, 9)) & MASK
             mode = word >> 10 & 3
@@ -376,13 +391,15 @@ class Thread:
         if word & 0x7E000000 == 0x28000000 and word >> 23 & 3:
             return self.pair(word, rt, rn, base, after)
         if word & 0x3F200C00 == 0x38200000 and (word >> 15 & 1 == 0 or word >> 12 & 7 == 0):
-            return self.exchange(word, "swp" if word >> 15 & 1 else UPDATES[word >> 12 & 7], size, base, rt, rn, after)
+            return self.exchange(word, "swp" if word >> 15 & 1 else UPDATES[word >> 12 & 7], size,
+                                 base, rt, rn, after)
         if word & 0x3FA07C00 == 0x08A07C00:
             return self.compare(word, size, base, rt, rn, after)
         if word & 0x3FFFFC00 in (0x08DFFC00, 0x089FFC00):
             loads = word >> 22 & 1
             if size == 8 and base in SHARED and base % 8 == 0:
-                answer = self.ask("ld", base, rn) if loads else self.ask("st", base, rn, self.read(rt))
+                answer = self.ask("ld", base, rn) if loads else self.ask("st", base, rn,
+                                                                         self.read(rt))
                 if loads:
                     self.write(rt, answer, False)
                 return after
@@ -394,7 +411,8 @@ class Thread:
             return after
         return None
 
-    def transfer(self, word: int, size: int, address: int, rt: int, rn: int, after: int) -> int | None:
+    def transfer(self, word: int, size: int, address: int, rt: int, rn: int,
+                 after: int) -> int | None:
         operation = word >> 22 & 3
         if size == 8 and operation > 1 or size == 4 and operation == 3:
             return None
@@ -414,7 +432,8 @@ class Thread:
             self.write(rt, value, False)
         return after
 
-    def exchange(self, word: int, kind: str, size: int, base: int, rt: int, rn: int, after: int) -> int:
+    def exchange(self, word: int, kind: str, size: int, base: int, rt: int, rn: int,
+                 after: int) -> int:
         """SWP, LDADD and its kin."""
         value = self.read(word >> 16 & 31)
         if size == 8 and kind in OPERATIONS and base in SHARED and base % 8 == 0:
@@ -464,7 +483,8 @@ class Thread:
 
 def masking(thread: Any) -> list[str]:
     """The lines that say which signals have to wait."""
-    return [f"inside {thread.depth}"] if thread.kernel == 1 else [f"mask {thread.mask:016x}", f"depth {thread.depth}"]
+    return [f"inside {thread.depth}"] if thread.kernel == 1 else [f"mask {thread.mask:016x}",
+                                                                  f"depth {thread.depth}"]
 
 
 def block(thread: Any, stop: str | None, number: Any = 0) -> list[str]:
@@ -472,23 +492,28 @@ def block(thread: Any, stop: str | None, number: Any = 0) -> list[str]:
     digest = hashlib.sha256()
     for page, (flags, content) in sorted(thread.pages.items()):
         digest.update(struct.pack("<QB", page * 4096, flags) + content)
-    lines = [f"thread {number}", f"stop {stop}", f"count {thread.count}", f"turns {thread.turns}", f"pc {thread.pc:016x}"]
+    lines = [f"thread {number}", f"stop {stop}", f"count {thread.count}", f"turns {thread.turns}",
+             f"pc {thread.pc:016x}"]
     lines += [f"x {i} {value:016x}" for i, value in enumerate(thread.x) if value]
-    lines += [f"sp {thread.sp:016x}", "nzcv " + "".join(map(str, thread.flags)), f"tpidr {thread.tpidr:016x}", f"tpidr2 {thread.tpidr2:016x}",
+    lines += [f"sp {thread.sp:016x}", "nzcv " + "".join(map(str, thread.flags)),
+              f"tpidr {thread.tpidr:016x}", f"tpidr2 {thread.tpidr2:016x}",
               f"svcr {thread.matrix.svcr()}", *thread.vectors.lines(), *thread.matrix.lines(),
               f"memory {len(thread.pages)} {digest.hexdigest()}", f"held {thread.held:016x}",
               *masking(thread), f"polled {int(thread.polled)}"]
-    lines += [f"handler {signal} {address:016x}" for signal, address in sorted(thread.handlers.items()) if address]
+    lines += [f"handler {signal} {address:016x}"
+              for signal, address in sorted(thread.handlers.items()) if address]
     lines += [f"output {len(thread.output)}"]
     lines += [f"out {thread.output[i:i + 32].hex()}" for i in range(0, len(thread.output), 32)]
     return lines + [f"journal {len(thread.journal)}", *thread.journal, "end-thread"]
 
 
-def report(file: bytes, vl: Any = 128, svl: Any = 256, budget: Any = 10_000_000, slice: int = 1000, kernel: int = KERNEL, thread: Any = Thread) -> str:
+def report(file: bytes, vl: Any = 128, svl: Any = 256, budget: Any = 10_000_000, slice: int = 1000,
+           kernel: int = KERNEL, thread: Any = Thread) -> str:
     thread, stop = thread(file, budget, vl, svl, slice, kernel=kernel), None
     while stop is None:
         stop = thread.turn()
-    lines = [f"smemu-report {kernel}", f"options vl={vl} svl={svl} slice={slice} budget={budget} threads=1",
+    lines = [f"smemu-report {kernel}",
+             f"options vl={vl} svl={svl} slice={slice} budget={budget} threads=1",
              f"image {hashlib.sha256(file).hexdigest()}", *block(thread, stop), "shared"]
     lines += [f"w {place} {word:016x}" for place, word in enumerate(thread.words) if word]
     lines += [f"pending 0 {thread.pending:016x}"] * bool(thread.pending)
@@ -498,7 +523,8 @@ def report(file: bytes, vl: Any = 128, svl: Any = 256, budget: Any = 10_000_000,
 def main() -> Any:
     words = parser(__doc__)
     words.add_argument("program", type=pathlib.Path, metavar="PROGRAM")
-    words.add_argument("numbers", type=int, nargs="*", metavar="NUMBER", help="the numbers that `report` takes")
+    words.add_argument("numbers", type=int, nargs="*", metavar="NUMBER",
+                       help="the numbers that `report` takes")
     asked = words.parse_args()
     sys.stdout.write(report(asked.program.read_bytes(), *asked.numbers))
     return 0

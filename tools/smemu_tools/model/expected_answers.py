@@ -1,10 +1,10 @@
-"""Prints what `vectors` is to answer to a file of instruction vectors (docs/VECTORS.md), by an interpreter of its own that shares nothing with the emulator; the
-status is that of the process.
+"""Prints what `vectors` is to answer to a file of instruction vectors (docs/VECTORS.md), by an
+interpreter of its own that shares nothing with the emulator; the status is that of the process.
 
     tools/smemu-tools expected-answers FILE [VL [SVL]]
 
-A vector is a word with the state before it. It is executed by the thread of expected.py, which has no memory here but two pages, and by
-expected_others.py. A word that these do not know is undefined.
+A vector is a word with the state before it. It is executed by the thread of expected.py, which has
+no memory here but two pages, and by expected_others.py. A word that these do not know is undefined.
 """
 from __future__ import annotations
 
@@ -63,7 +63,10 @@ def read_line(line: str, vl: int, svl: int) -> tuple[int, list[tuple[str, str]]]
         key, sign, value = said.partition("=")
         place = place_of(key)
         kind = ORDER[place[0]]
-        if not sign or place <= before or kind == "za" and (not modes & 2 or place[1] >= svl // 8) or not re.fullmatch(digits_of(kind, modes, vl, svl), value):
+        if not sign or place <= before or kind == "za" and (not modes & 2
+                                                            or place[1]
+                                                            >= svl // 8) or not re.fullmatch(
+                digits_of(kind, modes, vl, svl), value):
             raise BadLine
         modes = int(value) if kind == "svcr" else modes
         before = place
@@ -71,8 +74,10 @@ def read_line(line: str, vl: int, svl: int) -> tuple[int, list[tuple[str, str]]]
     return int(word, 16), fields
 
 
-def read_vectors(content: bytes, vl: int, svl: int) -> tuple[list[tuple[int, list[Any]]], int | None]:
-    """The words with their fields; the number of the first line at fault where there is one, 0 where the file is too long."""
+def read_vectors(content: bytes, vl: int, svl: int) -> tuple[list[tuple[int, list[Any]]],
+                                                             int | None]:
+    """The words with their fields; the number of the first line at fault where there is one, 0
+    where the file is too long."""
     if len(content) > MOST_BYTES:
         return [], 0
     lines = content.decode("latin-1").split("\n")
@@ -110,7 +115,8 @@ class Alone(KnowsAll, Thread):
         no_program = bytes(64)
         super().__init__(no_program, 1, vl, svl, 1)
         code = word.to_bytes(4, "little").ljust(PAGE, b"\0")
-        self.pages = {CODE // PAGE: [READ_AND_EXECUTE, bytearray(code)], DATA // PAGE: [READ_AND_WRITE, bytearray(PAGE)]}
+        self.pages = {CODE // PAGE: [READ_AND_EXECUTE, bytearray(code)],
+                      DATA // PAGE: [READ_AND_WRITE, bytearray(PAGE)]}
         self.x, self.sp, self.pc = [0] * 31, 0, CODE
         for key, value in fields:
             self.set(ORDER[place_of(key)[0]], place_of(key)[1], value)
@@ -144,8 +150,13 @@ class Alone(KnowsAll, Thread):
     def told(self) -> list[str]:
         """The fields that are not zero."""
         fields = [f"x{n}={value:016x}" for n, value in enumerate(self.x) if value]
-        fields += [f"sp={self.sp:016x}"] * bool(self.sp) + ["nzcv=" + "".join(str(int(flag)) for flag in self.flags)] * any(self.flags)
-        fields += [f"{name}={getattr(self, name):016x}" for name in ("tpidr", "tpidr2") if getattr(self, name)]
+        fields += [f"sp={self.sp:016x}"] * bool(self.sp) + ["nzcv="
+                                                            + "".join(str(int(flag))
+                                                                      for flag
+                                                                      in self.flags)] * any(
+            self.flags)
+        fields += [f"{name}={getattr(self, name):016x}" for name in ("tpidr", "tpidr2")
+                   if getattr(self, name)]
         fields += [f"svcr={self.matrix.svcr()}"] * bool(self.matrix.svcr())
         for line in [*self.vectors.lines(), *self.matrix.lines()]:
             *key, value = line.split(" ")
@@ -181,7 +192,8 @@ def answers(content: bytes, vl: int = 128, svl: int = 256) -> tuple[int, str]:
 def main() -> Any:
     words = parser(__doc__)
     words.add_argument("file", type=pathlib.Path, metavar="FILE")
-    words.add_argument("lengths", type=int, nargs="*", metavar="BITS", help="the lengths, --vl and --svl")
+    words.add_argument("lengths", type=int, nargs="*", metavar="BITS",
+                       help="the lengths, --vl and --svl")
     asked = words.parse_args()
     status, text = answers(asked.file.read_bytes(), *asked.lengths)
     sys.stdout.write(text)

@@ -1,10 +1,12 @@
-"""Writes the checkpoint of a thread of a run at a count, or prints what `resume` is to write of a checkpoint; the status is that of the process.
+"""Writes the checkpoint of a thread of a run at a count, or prints what `resume` is to write of a
+checkpoint; the status is that of the process.
 
     tools/smemu-tools expected-ckpt ckpt FILE REPORT THREAD COUNT
     tools/smemu-tools expected-ckpt resume FILE REPORT CKPT
 
-The thread runs on the interpreters of expected.py and expected_replay.py. The file is a walk over the fields of docs/CHECKPOINT.md: the place of the first one
-that is not whole, or not as its row says, is the answer.
+The thread runs on the interpreters of expected.py and expected_replay.py. The file is a walk over
+the fields of docs/CHECKPOINT.md: the place of the first one that is not whole, or not as its row
+says, is the answer.
 """
 from __future__ import annotations
 
@@ -15,12 +17,14 @@ from typing import Any, Callable
 
 from smemu_tools import parser
 from smemu_tools.model.expected import block
-from smemu_tools.model.expected_replay import Ends, Parts, Replayed, compared, count_of, events_of, in_format, opened, run_alone
+from smemu_tools.model.expected_replay import (Ends, Parts, Replayed, compared, count_of, events_of,
+                                               in_format, opened, run_alone)
 from smemu_tools.model.expected_signals import DEPTHS, SIGNALS, bits, truths
 from smemu_tools.model.expected_vectors import Vectors
 
 DIFFERS, BAD_CHECKPOINT = 10, 12
-FILE_LIMIT, OUTPUT_LIMIT, JOURNAL_LIMIT, PAGE, PAGE_LIMIT = 67_108_864, 1_048_576, 262_144, 4096, 4096
+FILE_LIMIT, OUTPUT_LIMIT, JOURNAL_LIMIT, PAGE, PAGE_LIMIT = (67_108_864, 1_048_576, 262_144, 4096,
+                                                             4096)
 SHARED_PAGE = 0x7F0000000000
 TAG = b"SMECKPT1"
 OPTIONS = ("vl", "svl", "slice", "budget", "threads", "kernel")
@@ -40,15 +44,21 @@ def number(value: int, size: int) -> bytes:
 def checkpoint(thread: Replayed, digest: str, options: dict[str, int]) -> bytes:
     """The file of a thread's state."""
     fields = [TAG, bytes.fromhex(digest), *(number(options[name], 4) for name in OPTIONS)]
-    fields += [number(value, 4) for value in (thread.number, thread.count, len(thread.journal), thread.depth)]
+    fields += [number(value, 4)
+               for value in (thread.number, thread.count, len(thread.journal), thread.depth)]
     flags = sum(flag << 31 - k for k, flag in enumerate(thread.flags))
-    fields += [number(value, 8) for value in (thread.turns, thread.pc, thread.sp, *thread.x, flags, thread.matrix.svcr(), thread.tpidr, thread.tpidr2,
-                                              thread.held, thread.mask, int(thread.polled))]
-    fields += [*map(bytes, thread.vectors.z), *map(bits, thread.vectors.p), bits(thread.vectors.ffr), *(map(bytes, thread.matrix.za) if thread.matrix.on else ())]
+    fields += [number(value, 8)
+               for value
+               in (thread.turns, thread.pc, thread.sp, *thread.x, flags, thread.matrix.svcr(),
+                   thread.tpidr, thread.tpidr2, thread.held, thread.mask, int(thread.polled))]
+    fields += [*map(bytes, thread.vectors.z), *map(bits, thread.vectors.p),
+               bits(thread.vectors.ffr),
+               *(map(bytes, thread.matrix.za) if thread.matrix.on else ())]
     handlers = [(signal, address) for signal, address in sorted(thread.handlers.items()) if address]
     fields += [number(len(handlers), 4), *(struct.pack("<IQ", *handler) for handler in handlers)]
     fields += [number(len(thread.output), 4), thread.output, number(len(thread.pages), 4)]
-    fields += [struct.pack("<QB", page * PAGE, flags) + content for page, (flags, content) in sorted(thread.pages.items())]
+    fields += [struct.pack("<QB", page * PAGE, flags) + content
+               for page, (flags, content) in sorted(thread.pages.items())]
     return b"".join(fields)
 
 
@@ -103,11 +113,13 @@ class Reader:
         return value
 
     def number(self, size: int, test: Callable[..., Any] = lambda value: True) -> int:
-        return int.from_bytes(self.field(size, lambda value: test(int.from_bytes(value, "little"))), "little")
+        return int.from_bytes(self.field(size, lambda value: test(int.from_bytes(value, "little"))),
+                              "little")
 
 
 def read(content: bytes, digest: str, options: Any, blocks: Any) -> Any:
-    """The values of a checkpoint's fields, for a report with that digest and those options, and the journal and the count of each thread's block."""
+    """The values of a checkpoint's fields, for a report with that digest and those options, and the
+    journal and the count of each thread's block."""
     reader, state = Reader(content), {}
     reader.field(8, lambda tag: tag == TAG)
     reader.field(32, lambda value: value == bytes.fromhex(digest))
@@ -123,8 +135,10 @@ def read(content: bytes, digest: str, options: Any, blocks: Any) -> Any:
     state["x"] = [reader.number(8) for _ in range(31)]
     state["flags"] = reader.number(8, lambda value: value & ~0xF0000000 == 0)
     state["svcr"] = reader.number(8, lambda value: value < 4)
-    state["tpidr"], state["tpidr2"], state["held"] = reader.number(8), reader.number(8), reader.number(8)
-    state["mask"] = reader.number(8, lambda value: value & ~SIGNALS == 0 and (options["kernel"] == 2 or value == 0))
+    state["tpidr"], state["tpidr2"], state["held"] = (reader.number(8), reader.number(8),
+                                                      reader.number(8))
+    state["mask"] = reader.number(8, lambda value: value & ~SIGNALS == 0
+                                  and (options["kernel"] == 2 or value == 0))
     state["polled"] = reader.number(8, lambda value: value < 2)
     length, array = options["svl" if state["svcr"] & 1 else "vl"] // 8, options["svl"] // 8
     reader.part("vectors")
@@ -141,7 +155,8 @@ def read(content: bytes, digest: str, options: Any, blocks: Any) -> Any:
     reader.part("pages")
     state["pages"], last = {}, -1
     for _ in range(reader.number(4, lambda value: value <= PAGE_LIMIT)):
-        last = reader.number(8, lambda value: value % PAGE == 0 and value > last and value != SHARED_PAGE)
+        last = reader.number(8, lambda value: value % PAGE == 0 and value > last
+                             and value != SHARED_PAGE)
         flags = reader.number(1, lambda value: value < 8)
         state["pages"][last // PAGE] = [flags, bytearray(reader.field(PAGE))]
     if reader.at < len(content):
@@ -154,14 +169,19 @@ NOTHING = bytes(64)
 
 
 def thread_of(state: Any, options: Any, events: Any) -> Replayed:
-    """The thread that a state is of, whose next operations are answered by the events that it has not used."""
+    """The thread that a state is of, whose next operations are answered by the events that it has
+    not used."""
     thread = Replayed(NOTHING, options, events, state["number"])
-    for name in ("count", "depth", "turns", "pc", "sp", "x", "tpidr", "tpidr2", "held", "mask", "handlers", "output", "pages"):
+    for name in ("count", "depth", "turns", "pc", "sp", "x", "tpidr", "tpidr2", "held", "mask",
+                 "handlers", "output", "pages"):
         setattr(thread, name, state[name])
-    thread.polled, thread.flags = bool(state["polled"]), [state["flags"] >> 31 - k & 1 for k in range(4)]
+    thread.polled, thread.flags = bool(state["polled"]), [state["flags"] >> 31 - k & 1
+                                                          for k in range(4)]
     thread.journal = list(events[:state["events"]])
     thread.vectors = Vectors(len(state["z"][0]))
-    thread.vectors.z, (*thread.vectors.p, thread.vectors.ffr) = [list(vector) for vector in state["z"]], map(truths, state["p"])
+    thread.vectors.z, (*thread.vectors.p,
+                       thread.vectors.ffr) = [list(vector) for vector in state["z"]], map(
+        truths, state["p"])
     thread.matrix.streaming, thread.matrix.on = bool(state["svcr"] & 1), bool(state["svcr"] & 2)
     if thread.matrix.on:
         thread.matrix.za = [list(vector) for vector in state["za"]]
@@ -169,17 +189,21 @@ def thread_of(state: Any, options: Any, events: Any) -> Replayed:
 
 
 def read_for(content: bytes, report: bytes) -> tuple[dict[str, int | list[int]], Reader]:
-    """The values of the fields of a checkpoint and the walk over them, for a report that is in the format."""
+    """The values of the fields of a checkpoint and the walk over them, for a report that is in the
+    format."""
     lines = report.decode().splitlines()
     options = {name: int(value) for name, value in re.findall(r"(\w+)=(\d+)", lines[1])}
     options["kernel"] = int(lines[0].split()[1])
-    blocks = [(int(count), int(events)) for count, events in zip(re.findall(r"^count (\d+)$", report.decode(), re.MULTILINE),
-                                                                 re.findall(r"^journal (\d+)$", report.decode(), re.MULTILINE))]
+    blocks = [(int(count), int(events))
+              for count, events
+              in zip(re.findall(r"^count (\d+)$", report.decode(), re.MULTILINE),
+                     re.findall(r"^journal (\d+)$", report.decode(), re.MULTILINE))]
     return read(content, lines[2].split()[1], options, blocks)
 
 
 def resume(file: bytes, report: bytes, content: bytes) -> Any:
-    """The status and the text: each file is looked at in its turn, and then whether the report is that of the program."""
+    """The status and the text: each file is looked at in its turn, and then whether the report is
+    that of the program."""
     try:
         in_format(report)
         if len(content) > FILE_LIMIT:

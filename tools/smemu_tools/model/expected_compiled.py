@@ -1,4 +1,5 @@
-"""What compilers make besides, for expected.py: forms of scalar instructions, and of vectors and predicates, as DDI 0487 describes them.
+"""What compilers make besides, for expected.py: forms of scalar instructions, and of vectors and
+predicates, as DDI 0487 describes them.
 
 `execute` gives the address of the next instruction, and None where the word is none of these.
 """
@@ -140,7 +141,8 @@ def products(word: int, thread: Any, width: int) -> int | None:
         number = (lambda value: value) if kind == 6 else (lambda value: signed(value, 64))
         result = number(a) * number(b) >> 64
     else:
-        number = {0: lambda value: value, 1: lambda value: signed(value, 32), 5: lambda value: value & ones(32)}[kind]
+        number = {0: lambda value: value, 1: lambda value: signed(value, 32),
+                  5: lambda value: value & ones(32)}[kind]
         product = number(a) * number(b)
         result = thread.read(word >> 10 & 31) + (-product if word >> 15 & 1 else product)
     thread.write(word & 31, result & ones(width), False)
@@ -183,7 +185,8 @@ def sum_of_vector(word: int, thread: Any, width: int) -> int | None:
     if size == 8 and not unsigned:
         return None
     number = (lambda value: value) if unsigned else (lambda value: signed(value, 8 * size))
-    values = zip(thread.vectors.active(word >> 10 & 7, size), thread.vectors.elements(word >> 5 & 31, size))
+    values = zip(thread.vectors.active(word >> 10 & 7, size),
+                 thread.vectors.elements(word >> 5 & 31, size))
     total = sum(number(value) for on, value in values if on)
     thread.vectors.put(word & 31, 8, [total] + [0] * (thread.vectors.length // 8 - 1))
     return thread.pc + 4
@@ -195,9 +198,11 @@ def long_products(word: int, thread: Any, width: int) -> int | None:
     if size == 1:
         return None
     number = (lambda value: value) if word >> 11 & 1 else (lambda value: signed(value, 4 * size))
-    first, second = (thread.vectors.elements(word >> at & 31, size // 2)[word >> 10 & 1::2] for at in (5, 16))
+    first, second = (thread.vectors.elements(word >> at & 31, size // 2)[word >> 10 & 1::2]
+                     for at in (5, 16))
     before = thread.vectors.elements(word & 31, size) if adds else [0] * len(first)
-    thread.vectors.put(word & 31, size, [old + number(a) * number(b) for old, a, b in zip(before, first, second)])
+    thread.vectors.put(word & 31, size,
+                       [old + number(a) * number(b) for old, a, b in zip(before, first, second)])
     return thread.pc + 4
 
 
@@ -244,7 +249,8 @@ def vector_at_number(word: int, thread: Any, width: int) -> int | None:
     memory, size = 1 << memory, 1 << size
     count = vectors.length // size
     start = (thread.sp if rn == 31 else thread.x[rn]) + signed(word >> 16, 4) * count * memory
-    places = [(e, start + e * memory & MASK) for e, on in enumerate(vectors.active(word >> 10 & 7, size)) if on]
+    places = [(e, start + e * memory & MASK)
+              for e, on in enumerate(vectors.active(word >> 10 & 7, size)) if on]
     thread.check_all([at for _, at in places], memory, "read" if loads else "write", rn)
     if loads:
         values = [0] * count
@@ -260,13 +266,20 @@ def vector_at_number(word: int, thread: Any, width: int) -> int | None:
 
 
 ROWS = (
-    (0x1F800000, 0x12000000, logical_immediate), (0x1F000000, 0x0A000000, logical_register), (0x1F200000, 0x0B000000, add_shifted),
-    (0x1FE00000, 0x0B200000, add_extended), (0x1F800000, 0x13000000, bit_field), (0x3FE00800, 0x1A800000, select),
-    (0x3FE00410, 0x3A400000, compare), (0x7F000000, 0x1B000000, products), (0x7E000000, 0x36000000, test_and_branch),
-    (0x3F200C00, 0x38200800, indexed_access), (0xFFFFF800, 0x04BF5000, length_in_register), (0xFFE0F800, 0x04205000, length_added),
-    (0xFFE0F800, 0x04605000, length_added), (0xFF3EE000, 0x04002000, sum_of_vector), (0xFF20F000, 0x45007000, long_products),
-    (0xFF20F000, 0x44004000, long_products), (0xFF3FFC00, 0x05203800, copied_register), (0xFFC0A000, 0x85800000, spilled),
-    (0xFFC0A000, 0xE5800000, spilled), (0xFE10E000, 0xA400A000, vector_at_number), (0xFE10E000, 0xE400E000, vector_at_number))
+    (0x1F800000, 0x12000000, logical_immediate), (0x1F000000, 0x0A000000, logical_register),
+    (0x1F200000, 0x0B000000, add_shifted),
+    (0x1FE00000, 0x0B200000, add_extended), (0x1F800000, 0x13000000, bit_field),
+    (0x3FE00800, 0x1A800000, select),
+    (0x3FE00410, 0x3A400000, compare), (0x7F000000, 0x1B000000, products),
+    (0x7E000000, 0x36000000, test_and_branch),
+    (0x3F200C00, 0x38200800, indexed_access), (0xFFFFF800, 0x04BF5000, length_in_register),
+    (0xFFE0F800, 0x04205000, length_added),
+    (0xFFE0F800, 0x04605000, length_added), (0xFF3EE000, 0x04002000, sum_of_vector),
+    (0xFF20F000, 0x45007000, long_products),
+    (0xFF20F000, 0x44004000, long_products), (0xFF3FFC00, 0x05203800, copied_register),
+    (0xFFC0A000, 0x85800000, spilled),
+    (0xFFC0A000, 0xE5800000, spilled), (0xFE10E000, 0xA400A000, vector_at_number),
+    (0xFE10E000, 0xE400E000, vector_at_number))
 
 
 def execute(word: int, thread: Any) -> int | None:

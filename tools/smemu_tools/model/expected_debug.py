@@ -1,9 +1,11 @@
-"""Prints what `debug` is to write of a program file, a report, a thread and a script; the status is that of the process. The thread runs
-over its journal as in expected_replay.py, and the kinds of faults of a report are those of report_faults.py.
+"""Prints what `debug` is to write of a program file, a report, a thread and a script; the status is
+that of the process. The thread runs over its journal as in expected_replay.py, and the kinds of
+faults of a report are those of report_faults.py.
 
     tools/smemu-tools expected-debug FILE REPORT THREAD SCRIPT
 
-The texts of words are looked up in the tables of crates/smemu_rows/data, which another tool made or a hand wrote.
+The texts of words are looked up in the tables of crates/smemu_rows/data, which another tool made or
+a hand wrote.
 """
 from __future__ import annotations
 
@@ -15,7 +17,8 @@ from typing import Any, Callable, Iterator
 
 from smemu_tools import TOP, parser
 from smemu_tools.model.expected import MASK, block
-from smemu_tools.model.expected_replay import Ends, Replayed, block_in, count_of, events_of, run_alone
+from smemu_tools.model.expected_replay import (Ends, Replayed, block_in, count_of, events_of,
+                                               run_alone)
 from smemu_tools.model.report_faults import found
 
 DATA = TOP / "crates" / "smemu_rows" / "data"
@@ -41,19 +44,24 @@ class BadScript(Exception):
 
 
 def number_up_to(most: int) -> Callable[..., Any]:
-    return lambda word: int(word) if re.fullmatch("0|[1-9][0-9]*", word) and int(word) <= most else None
+    return lambda word: int(word) if re.fullmatch("0|[1-9][0-9]*",
+                                                  word) and int(word) <= most else None
 
 
 # what a word says, or None, and the kind of fault then
 NUMBER, LENGTH = (number_up_to(2**32 - 1), "badnumber"), (number_up_to(4096), "badnumber")
-ADDRESS = lambda word: int(word, 16) if re.fullmatch("0x[0-9A-Fa-f]{1,16}", word) else None, "badnumber"
-ELEMENT, VERTICAL = ({"b": 1, "h": 2, "s": 4, "d": 8, "q": 16}.get, "unknown"), ({"h": False, "v": True}.get, "unknown")
-OPERANDS: dict[str, Any] = {"step": [NUMBER], "back": [NUMBER], "goto": [NUMBER], "break": [ADDRESS], "regs": [], "za": [], "where": [],
-            "slice": [ELEMENT, NUMBER, VERTICAL, NUMBER], "mem": [ADDRESS, LENGTH]}
+ADDRESS = lambda word: int(word, 16) if re.fullmatch("0x[0-9A-Fa-f]{1,16}",
+                                                     word) else None, "badnumber"
+ELEMENT, VERTICAL = ({"b": 1, "h": 2, "s": 4, "d": 8, "q": 16}.get,
+                     "unknown"), ({"h": False, "v": True}.get, "unknown")
+OPERANDS: dict[str, Any] = {"step": [NUMBER], "back": [NUMBER], "goto": [NUMBER],
+                            "break": [ADDRESS], "regs": [], "za": [], "where": [],
+                            "slice": [ELEMENT, NUMBER, VERTICAL, NUMBER], "mem": [ADDRESS, LENGTH]}
 
 
 def command_of(line: str) -> tuple[int | str, ...]:
-    """The command of a line: its name and its values. The words are judged from left to right, with one space between them."""
+    """The command of a line: its name and its values. The words are judged from left to right, with
+    one space between them."""
     name, *words = line.split(" ")
     if name not in OPERANDS:
         raise BadScript("unknown")
@@ -91,13 +99,15 @@ def registers(thread: Replayed) -> Any:
     return itertools.takewhile(lambda line: not line.startswith(("za ", "memory ")), lines)
 
 
-def vector_of_slice(thread: Replayed, size: int, tile: int, vertical: bool, number: int) -> list[str]:
+def vector_of_slice(thread: Replayed, size: int, tile: int, vertical: bool,
+                    number: int) -> list[str]:
     matrix = thread.matrix
     if not matrix.on:
         return ["off"]
     if tile >= size or number >= matrix.lengths[1] // size:
         return ["outside"]
-    return ["".join(bytes(matrix.za[v][at:at + size]).hex() for v, at in matrix.slice(size, tile, vertical, number))]
+    return ["".join(bytes(matrix.za[v][at:at + size]).hex()
+                    for v, at in matrix.slice(size, tile, vertical, number))]
 
 
 def memory(thread: Replayed, address: int, length: int) -> list[str]:
@@ -113,14 +123,16 @@ def place(thread: Replayed, texts: dict[str, str]) -> list[str]:
     return [f"at {thread.count} {thread.pc:016x} {text}"]
 
 
-SHOWS: dict[str, Any] = {"regs": registers, "za": lambda thread: thread.matrix.lines(), "slice": vector_of_slice, "mem": memory}
+SHOWS: dict[str, Any] = {"regs": registers, "za": lambda thread: thread.matrix.lines(),
+                         "slice": vector_of_slice, "mem": memory}
 
 
 # ---- the session
 
 
 def shown(thread: Replayed) -> Iterator[Replayed]:
-    """The thread at each count from 0 on: after the fewest turns by which so many instructions are counted."""
+    """The thread at each count from 0 on: after the fewest turns by which so many instructions are
+    counted."""
     count, stop = -1, None
     while True:
         if thread.count > count:
@@ -132,14 +144,16 @@ def shown(thread: Replayed) -> Iterator[Replayed]:
 
 
 def moved(at: int, name: str, value: int, pcs: list[int]) -> int:
-    """Where a move leads from a count; past the last one where it ends there. `pcs` has the PC that is shown at each count."""
+    """Where a move leads from a count; past the last one where it ends there. `pcs` has the PC that
+    is shown at each count."""
     if name == "break":
         return next((count for count in range(at + 1, len(pcs)) if pcs[count] == value), len(pcs))
     return {"step": at + value, "back": max(at - value, 0), "goto": value}[name]
 
 
 def session(start: Any, commands: Any, texts: Any) -> Iterator[Any]:
-    """The lines that the commands print, over a thread that begins anew each time it is asked for."""
+    """The lines that the commands print, over a thread that begins anew each time it is asked
+    for."""
     shows = {**SHOWS, "where": lambda thread: place(thread, texts)}
     pcs = [thread.pc for thread in shown(start())]
     at, last, answers, asked = 0, len(pcs) - 1, [[] for _ in commands], {}
@@ -184,7 +198,8 @@ def main() -> Any:
     words.add_argument("thread", type=int, metavar="THREAD")
     words.add_argument("script", type=pathlib.Path, metavar="SCRIPT")
     asked = words.parse_args()
-    files = (asked.program.read_bytes(), asked.report.read_bytes(), asked.thread, asked.script.read_bytes())
+    files = (asked.program.read_bytes(), asked.report.read_bytes(), asked.thread,
+             asked.script.read_bytes())
     status, text = debug(*files, listed())
     sys.stdout.write(text)
     return status

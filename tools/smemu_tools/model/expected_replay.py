@@ -1,6 +1,7 @@
-"""Prints what `replay` is to write of a program file, a report that is in the format, and a thread; the status is that of the
-process. The thread runs on the interpreter of expected.py, under the kernel of the report's version, and each operation on a shared word is answered
-by the report's journal.
+"""Prints what `replay` is to write of a program file, a report that is in the format, and a thread;
+the status is that of the process. The thread runs on the interpreter of expected.py, under the
+kernel of the report's version, and each operation on a shared word is answered by the report's
+journal.
 
     tools/smemu-tools expected-replay FILE REPORT THREAD
 """
@@ -23,9 +24,10 @@ class Parts(Exception):
 
 
 class Replayed(Thread):
-    def __init__(self, file: bytes, options: dict[str, int], events: list[str], number: Any) -> None:
-        super().__init__(file, options["budget"], options["vl"], options["svl"], options["slice"], number, options["threads"],
-                         options["kernel"])
+    def __init__(self, file: bytes, options: dict[str, int], events: list[str],
+                 number: Any) -> None:
+        super().__init__(file, options["budget"], options["vl"], options["svl"], options["slice"],
+                         number, options["threads"], options["kernel"])
         self.events = events
 
     def answer(self, kind: str, place: int, a: int, b: int = 0) -> int:
@@ -52,7 +54,8 @@ class Ends(Exception):
 
 
 def block_in(file: bytes, lines: list[str], number: int) -> tuple[dict[str, int], int, list[str]]:
-    """The options of a report, its version among them as the kernel, and where in it the block of a thread begins, with the block's lines."""
+    """The options of a report, its version among them as the kernel, and where in it the block of a
+    thread begins, with the block's lines."""
     options = {name: int(value) for name, value in re.findall(r"(\w+)=(\d+)", lines[1])}
     options["kernel"] = int(lines[0][len("smemu-report "):])
     if lines[2] != f"image {hashlib.sha256(file).hexdigest()}":
@@ -103,7 +106,8 @@ def count_of(block: list[str]) -> int:
 
 
 def compared(ours: list[str], theirs: list[str], start: int) -> tuple[int, str]:
-    """The status and the text where a block is to be that of the report, which begins at that line."""
+    """The status and the text where a block is to be that of the report, which begins at that
+    line."""
     for line, (a, b) in enumerate(itertools.zip_longest(theirs, ours, fillvalue=""), start + 1):
         if a != b:
             return 10, f"differs: line {line}\n{a}\n{b}\n"

@@ -1,4 +1,5 @@
-"""Vectors and predicates for expected.py: those instructions that the programs of this repository use.
+"""Vectors and predicates for expected.py: those instructions that the programs of this repository
+use.
 
 A vector is a list of its bytes, a predicate a list of truth values, one for each byte of a vector.
 """
@@ -7,7 +8,8 @@ from __future__ import annotations
 from typing import Any
 
 MASK = (1 << 64) - 1
-# of each number 24:21 of a load: log2 of the bytes in memory and of an element, and whether it extends the sign
+# of each number 24:21 of a load: log2 of the bytes in memory and of an element, and whether it
+# extends the sign
 LOADS = [(0, 0, 0), (0, 1, 0), (0, 2, 0), (0, 3, 0), (2, 3, 1), (1, 1, 0), (1, 2, 0), (1, 3, 0),
          (1, 3, 1), (1, 2, 1), (2, 2, 0), (2, 3, 0), (0, 3, 1), (0, 2, 1), (0, 1, 1), (3, 3, 0)]
 PATTERNS = {**{n: n for n in range(1, 9)}, 9: 16, 10: 32, 11: 64, 12: 128, 13: 256}
@@ -36,10 +38,12 @@ class Vectors:
 
     def elements(self, number: int, size: int) -> list[int]:
         z = self.z[number]
-        return [int.from_bytes(bytes(z[at:at + size]), "little") for at in range(0, self.length, size)]
+        return [int.from_bytes(bytes(z[at:at + size]), "little")
+                for at in range(0, self.length, size)]
 
     def put(self, number: int, size: int, values: list[int]) -> None:
-        self.z[number] = [byte for value in values for byte in (value % (1 << 8 * size)).to_bytes(size, "little")]
+        self.z[number] = [byte for value in values
+                          for byte in (value % (1 << 8 * size)).to_bytes(size, "little")]
 
     def active(self, number: int, size: int) -> list[bool]:
         return self.p[number][::size]
@@ -48,7 +52,8 @@ class Vectors:
         self.p[number] = [truth and k == 0 for truth in truths for k in range(size)]
 
     def lines(self) -> list[str]:
-        bits = lambda p: bytes(sum(p[at + k] << k for k in range(8)) for at in range(0, self.length, 8))
+        bits = lambda p: bytes(sum(p[at + k] << k for k in range(8))
+                               for at in range(0, self.length, 8))
         return ([f"z {i} {bytes(z).hex()}" for i, z in enumerate(self.z) if any(z)]
                 + [f"p {i} {bits(p).hex()}" for i, p in enumerate(self.p) if any(p)]
                 + [f"ffr {bits(self.ffr).hex()}"] * any(self.ffr))
@@ -57,14 +62,16 @@ class Vectors:
         """Whether the word is known; it is executed then."""
         size, rd, rn, rm = 1 << (word >> 22 & 3), word & 31, word >> 5 & 31, word >> 16 & 31
         for mask, value, what in (
-                (0xFF20E410, 0x25200400, self.compare_and_count), (0xFE00E000, 0xA4004000, self.load),
+                (0xFF20E410, 0x25200400, self.compare_and_count),
+                (0xFE00E000, 0xA4004000, self.load),
                 (0xFE00E000, 0xE4004000, self.store), (0xFF20E000, 0x04200000, self.arithmetic),
                 (0xFF20E000, 0x25008000, self.compare), (0xFF3FC200, 0x25208000, self.count_active),
                 (0xFF30F800, 0x0430E000, self.increment), (0xFF20FC00, 0x04204000, self.index),
                 (0xFF3CE000, 0x04082000, self.reduce), (0xFFFFFFF0, 0x2518E400, self.clear),
                 (0xFF3FFC10, 0x2518E000, self.set_pattern), (0xFF3EE000, 0x0520A000, self.last),
                 (0xFF3FC000, 0x2538C000, self.copy), (0xFF30F800, 0x0420E000, self.count),
-                (0xFFFFFFFF, 0x252C9000, self.set_first_fault), (0xFFFFFFF0, 0x2519F000, self.read_first_fault),
+                (0xFFFFFFFF, 0x252C9000, self.set_first_fault),
+                (0xFFFFFFF0, 0x2519F000, self.read_first_fault),
                 (0xFFFFFE1F, 0x25289000, self.write_first_fault)):
             if word & mask == value:
                 return what(word, thread, size, rd, rn, rm) is not False
@@ -72,10 +79,11 @@ class Vectors:
 
     def flags(self, thread: Any, governing: list[bool], truths: list[bool]) -> None:
         places = [e for e, active in enumerate(governing) if active]
-        thread.flags = ([int(truths[places[0]]), int(not any(truths[e] for e in places)), int(not truths[places[-1]]), 0]
-                        if places else [0, 1, 1, 0])
+        thread.flags = ([int(truths[places[0]]), int(not any(truths[e] for e in places)),
+                         int(not truths[places[-1]]), 0] if places else [0, 1, 1, 0])
 
-    def compare_and_count(self, word: int, thread: Any, size: int, rd: int, rn: int, rm: int) -> None:
+    def compare_and_count(self, word: int, thread: Any, size: int, rd: int, rn: int,
+                          rm: int) -> None:
         width, unsigned = 64 if word >> 12 & 1 else 32, word >> 11 & 1
         number = lambda value: value % (1 << width) if unsigned else signed(value, width)
         first, bound = number(thread.read(rn)), number(thread.read(rm))
@@ -83,15 +91,18 @@ class Vectors:
         self.mask(rd & 15, size, truths)
         self.flags(thread, [True] * len(truths), truths)
 
-    def places(self, word: int, thread: Any, memory: int, size: int, rn: int, rm: int) -> list[tuple[int, int]]:
+    def places(self, word: int, thread: Any, memory: int, size: int, rn: int,
+               rm: int) -> list[tuple[int, int]]:
         base = thread.sp if rn == 31 else thread.x[rn]
         start = base + thread.read(rm) * memory
-        return [(e, (start + e * memory) & MASK) for e, on in enumerate(self.active(word >> 10 & 7, size)) if on]
+        return [(e, (start + e * memory) & MASK)
+                for e, on in enumerate(self.active(word >> 10 & 7, size)) if on]
 
     def load(self, word: int, thread: Any, _: int, rd: int, rn: int, rm: int) -> None:
         memory, size, extends = LOADS[word >> 21 & 15]
         memory, size = 1 << memory, 1 << size
-        places, values = self.places(word, thread, memory, size, rn, rm), [0] * (self.length // size)
+        places, values = self.places(word, thread, memory, size, rn,
+                                     rm), [0] * (self.length // size)
         thread.check_all([at for _, at in places], memory, "read", rn)
         for e, at in places:
             value = thread.load(at, memory)
@@ -111,8 +122,10 @@ class Vectors:
         operation, bits = word >> 10 & 7, 8 * size
         if operation in (2, 3):
             return False
-        number = (lambda value: signed(value, bits)) if operation in (4, 6) else (lambda value: value)
-        least, greatest = (-(1 << bits - 1), (1 << bits - 1) - 1) if operation in (4, 6) else (0, (1 << bits) - 1)
+        number = (lambda value: signed(value, bits)) if operation in (4,
+                                                                      6) else (lambda value: value)
+        least, greatest = (-(1 << bits - 1), (1 << bits - 1) - 1) if operation in (4, 6) else (
+            0, (1 << bits) - 1)
         results = []
         for a, b in zip(self.elements(rn, size), self.elements(rm, size)):
             result = number(a) + number(b) if operation in (0, 4, 5) else number(a) - number(b)
@@ -140,17 +153,20 @@ class Vectors:
     def copy(self, word: int, thread: Any, size: int, rd: int, rn: int, rm: int) -> Any:
         if size == 1 and word >> 13 & 1:
             return False
-        self.put(rd, size, [signed(word >> 5, 8) << (8 if word >> 13 & 1 else 0)] * (self.length // size))
+        self.put(rd, size,
+                 [signed(word >> 5, 8) << (8 if word >> 13 & 1 else 0)] * (self.length // size))
 
     def set_first_fault(self, word: int, thread: Any, size: int, rd: int, rn: int, rm: int) -> None:
         thread.need(streaming=False)
         self.ffr = [True] * self.length
 
-    def read_first_fault(self, word: Any, thread: Any, size: Any, rd: Any, rn: Any, rm: Any) -> None:
+    def read_first_fault(self, word: Any, thread: Any, size: Any, rd: Any, rn: Any,
+                         rm: Any) -> None:
         thread.need(streaming=False)
         self.p[rd & 15] = list(self.ffr)
 
-    def write_first_fault(self, word: Any, thread: Any, size: Any, rd: Any, rn: Any, rm: Any) -> None:
+    def write_first_fault(self, word: Any, thread: Any, size: Any, rd: Any, rn: Any,
+                          rm: Any) -> None:
         thread.need(streaming=False)
         self.ffr = list(self.p[rn & 15])
 
@@ -160,8 +176,11 @@ class Vectors:
     def reduce(self, word: int, thread: Any, size: int, rd: int, rn: int, rm: int) -> None:
         bits, unsigned = 8 * size, rm & 1
         number = (lambda value: value) if unsigned else (lambda value: signed(value, bits))
-        least, greatest = (0, (1 << bits) - 1) if unsigned else (-(1 << bits - 1), (1 << bits - 1) - 1)
-        values = [number(v) for on, v in zip(self.active(word >> 10 & 7, size), self.elements(rn, size)) if on]
+        least, greatest = (0, (1 << bits) - 1) if unsigned else (-(1 << bits - 1),
+                                                                 (1 << bits - 1) - 1)
+        values = [number(v)
+                  for on, v in zip(self.active(word >> 10 & 7, size), self.elements(rn, size))
+                  if on]
         result = min([greatest, *values]) if rm & 2 else max([least, *values])
         self.put(rd, size, [result] + [0] * (self.length // size - 1))
 

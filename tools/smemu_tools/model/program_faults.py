@@ -1,7 +1,10 @@
-"""Says of a program file which check of docs/PROGRAM_FILE.md fails first, or what the loader makes of it; tools/smemu_tools/rows/changed.py asks it.
+"""Says of a program file which check of docs/PROGRAM_FILE.md fails first, or what the loader makes
+of it; tools/smemu_tools/rows/changed.py asks it.
 
-It shares nothing with the emulator. `loaded` gives the listing of a file's code words as pairs of an address and a word, or raises Refused with the
-line that is written. Which words mean an instruction is asked for by a function, since the tables of crates/smemu_rows/data say it of theirs alone.
+It shares nothing with the emulator. `loaded` gives the listing of a file's code words as pairs of
+an address and a word, or raises Refused with the line that is written. Which words mean an
+instruction is asked for by a function, since the tables of crates/smemu_rows/data say it of theirs
+alone.
 """
 from __future__ import annotations
 
@@ -23,7 +26,8 @@ class Load:
     """A segment that is loaded: its index, its addresses, its flags and its bytes in the file."""
 
     def __init__(self, index: int, flags: int, address: int, memory: int, content: bytes) -> None:
-        self.index, self.flags, self.address, self.end, self.content = index, flags, address, address + memory, content
+        self.index, self.flags, self.address, self.end, self.content = (index, flags, address,
+                                                                        address + memory, content)
 
     def byte(self, address: int) -> int:
         at = address - self.address
@@ -42,14 +46,16 @@ def bad_table(place: int) -> None:
 
 
 def check_header(file: bytes) -> tuple[int, ...]:
-    """The header's fields that are looked at later: entry, places, sizes and numbers of both tables, in the order of the header."""
+    """The header's fields that are looked at later: entry, places, sizes and numbers of both
+    tables, in the order of the header."""
     if len(file) > FILE_LIMIT:
         raise Refused("toolong")
     if len(file) < 64:
         truncated(file)
     if file[:7] != b"\x7fELF\x02\x01\x01":
         raise Refused("notelf")
-    kind, machine, _, entry, heads, sections, _, _, size, count, section_size, section_count, _ = struct.unpack_from("<HHIQQQIHHHHHH", file, 16)
+    kind, machine, _, entry, heads, sections, _, _, size, count, section_size, section_count, _ = (
+        struct.unpack_from("<HHIQQQIHHHHHH", file, 16))
     if machine != 183:
         raise Refused(f"notthismachine {machine}")
     if kind != 2:
@@ -64,7 +70,8 @@ def check_header(file: bytes) -> tuple[int, ...]:
 
 def load_of(file: bytes, index: int, place: int) -> Load | None:
     """The load of a program header; None of one that is passed over."""
-    kind, flags, offset, address, _, size, memory, _ = struct.unpack_from(PROGRAM_HEADER, file, place)
+    kind, flags, offset, address, _, size, memory, _ = struct.unpack_from(PROGRAM_HEADER, file,
+                                                                          place)
     if kind in NOT_STATIC:
         raise Refused(f"notstatic {kind}")
     if kind != LOAD:
@@ -88,13 +95,15 @@ def check_together(loads: Any, entry: int) -> None:
         for b in loads[i + 1:]:
             if a.address < b.end and b.address < a.end:
                 raise Refused(f"overlap {a.index} {b.index}")
-    # the pages of loads that have no address in common: of two neighbours one page at most is the same
+    # the pages of loads that have no address in common: of two neighbours one page at most is the
+    # same
     ordered = sorted(loads, key=lambda load: load.address)
     pages = sum(len(load.pages()) for load in ordered)
     pages -= sum(a.pages()[-1] == b.pages()[0] for a, b in zip(ordered, ordered[1:]))
     if pages + STACK_PAGES > PAGE_LIMIT:
         raise Refused(f"toomanypages {pages + STACK_PAGES}")
-    if entry % 4 or not any(load.flags & EXECUTE and load.address <= entry < load.end for load in loads):
+    if entry % 4 or not any(load.flags & EXECUTE and load.address <= entry < load.end
+                            for load in loads):
         raise Refused(f"entryoutside 0x{entry:016x}")
 
 
@@ -112,13 +121,15 @@ def inside(file: bytes, header: tuple[int, ...]) -> bool:
     return header[4] + header[5] <= len(file)
 
 
-def marks_of(file: bytes, headers: list[tuple[int, ...]], header: tuple[int, ...], place: int) -> list[tuple[int, int, bool]]:
+def marks_of(file: bytes, headers: list[tuple[int, ...]], header: tuple[int, ...],
+             place: int) -> list[tuple[int, int, bool]]:
     """The mapping symbols of a symbol table: section, value and whether code begins."""
     if header[9] != 24 or header[6] >= len(headers):
         bad_table(place)
     names = headers[header[6]]
     count = header[5] // 24
-    if count and not (inside(file, header) and inside(file, names)) or header[5] and not inside(file, header) or names[5] and not inside(file, names):
+    if (count and not (inside(file, header) and inside(file, names)) or header[5]
+            and not inside(file, header) or names[5] and not inside(file, names)):
         bad_table(place)
     strings, marks = file[names[4]:names[4] + names[5]], []
     for k in range(count):
@@ -132,8 +143,10 @@ def marks_of(file: bytes, headers: list[tuple[int, ...]], header: tuple[int, ...
     return marks
 
 
-def check_sections(file: bytes, loads: list[Load], at: int, size: int, count: int) -> tuple[list[tuple[int, int, int]], list[tuple[int, int, bool]]]:
-    """The code sections, each with its number, and the mapping symbols in the order in which a later one wins."""
+def check_sections(file: bytes, loads: list[Load], at: int, size: int,
+                   count: int) -> tuple[list[tuple[int, int, int]], list[tuple[int, int, bool]]]:
+    """The code sections, each with its number, and the mapping symbols in the order in which a
+    later one wins."""
     if at == 0:
         return [], []
     if size != 64 or count == 0 or at + 64 * count >= 1 << 64:
@@ -162,7 +175,8 @@ def is_code(marks: list[tuple[int, int, bool]], section: int, address: int) -> b
 
 
 def word_at(loads: list[Load], address: int) -> int:
-    return sum(next(load for load in loads if load.address <= at < load.end).byte(at) << 8 * k for k, at in enumerate(range(address, address + 4)))
+    return sum(next(load for load in loads if load.address <= at < load.end).byte(at) << 8 * k
+               for k, at in enumerate(range(address, address + 4)))
 
 
 def loaded(file: bytes, means: Callable[..., Any]) -> list[tuple[int, int]]:
@@ -171,7 +185,8 @@ def loaded(file: bytes, means: Callable[..., Any]) -> list[tuple[int, int]]:
     loads = [load for i in range(count) if (load := load_of(file, i, heads + 56 * i))]
     check_together(loads, entry)
     code, marks = check_sections(file, loads, sections_at, section_size, section_count)
-    places = {at for number, start, end in code for at in range(-(-start // 4) * 4, end - 3, 4) if is_code(marks, number, at)}
+    places = {at for number, start, end in code for at in range(-(-start // 4) * 4, end - 3, 4)
+              if is_code(marks, number, at)}
     words = [(at, word_at(loads, at)) for at in sorted(places)]
     for at, word in words:
         if not means(word):

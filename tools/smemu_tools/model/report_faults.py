@@ -1,8 +1,9 @@
-"""Says of a report which line is the first at fault, and which part of docs/REPORT.md it should belong to, and which changes of a report
-to try; tools/smemu_tools/rows/altered.py asks it.
+"""Says of a report which line is the first at fault, and which part of docs/REPORT.md it should
+belong to, and which changes of a report to try; tools/smemu_tools/rows/altered.py asks it.
 
-It shares nothing with the emulator: each kind of line is a regular expression, and a report is a walk through the kinds that may follow.
-A change is a range of bytes of the report, and the bytes that take its place; what is found then is a line and a part, or `read`.
+It shares nothing with the emulator: each kind of line is a regular expression, and a report is a
+walk through the kinds that may follow. A change is a range of bytes of the report, and the bytes
+that take its place; what is found then is a line and a part, or `read`.
 """
 from __future__ import annotations
 
@@ -14,15 +15,18 @@ H = r"[0-9a-f]{16}"
 BYTES = r"(?:[0-9a-f]{2})+"
 DIGEST = r"[0-9a-f]{64}"
 RAISED = {
-    "undefined": " [0-9a-f]{8}", "pcalign": "", "fetch": "", "data": f" {H} (?:read|write)", "spalign": "", "align": f" {H}",
-    "illegalstreaming": "", "notstreaming": "", "zainactive": "", "breakpoint": f" ({D})", "shared": f" {H}",
+    "undefined": " [0-9a-f]{8}", "pcalign": "", "fetch": "", "data": f" {H} (?:read|write)",
+    "spalign": "", "align": f" {H}",
+    "illegalstreaming": "", "notstreaming": "", "zainactive": "", "breakpoint": f" ({D})",
+    "shared": f" {H}",
 }
 STOPS = [f"exited ({D})", f"killed ({D})", f"badframe {H}", "budget", "tracefull", "outputfull",
          *(f"raised {name} {H}{values}" for name, values in RAISED.items())]
 # a kind of line: its form, and the least number that is too large for each number in it
 LINES: dict[str, Any] = {
     "header": ("smemu-report ([12])", ()),
-    "options": (f"options vl=({D}) svl=({D}) slice=({D}) budget=({D}) threads=({D})", (2049, 2049, 1000001, 2**32, 33)),
+    "options": (f"options vl=({D}) svl=({D}) slice=({D}) budget=({D}) threads=({D})",
+                (2049, 2049, 1000001, 2**32, 33)),
     "image": (f"image {DIGEST}", ()),
     "thread": (f"thread ({D})", (2**32,)),
     "count": (f"count ({D})", (2**32,)),
@@ -55,8 +59,10 @@ LINES: dict[str, Any] = {
     "pending": (f"pending ({D}) {H}", (32,)),
     "end": ("end", ()),
 }
-# the kinds of a block up to its output, in each version: one of each, or `*` any number, or `?` at most one
-BLOCKS = {version: f"stop count turns pc x* sp nzcv tpidr tpidr2 svcr z* p* ffr? za* memory held {masking} polled handler* output".split()
+# the kinds of a block up to its output, in each version: one of each, or `*` any number, or `?` at
+# most one
+BLOCKS = {version: f"stop count turns pc x* sp nzcv tpidr tpidr2 svcr z* p* ffr? "
+          f"za* memory held {masking} polled handler* output".split()
           for version, masking in ((1, "inside"), (2, "mask depth"))}
 
 
@@ -171,7 +177,8 @@ MASKING = {1: ["inside 0"], 2: [f"mask {h(0x28)}", "depth 2"]}
 
 
 def of_two_threads(digest: Any, second: Any, version: Any) -> Any:
-    """A report of two threads, the first with each kind of line; the block of the second is given, as the digest of the program."""
+    """A report of two threads, the first with each kind of line; the block of the second is given,
+    as the digest of the program."""
     return "\n".join([
         f"smemu-report {version}",
         "options vl=128 svl=256 slice=1000 budget=10000000 threads=2",
@@ -190,22 +197,27 @@ def of_two_threads(digest: Any, second: Any, version: Any) -> Any:
 
 # what may stand after `stop`, and what may not
 STOP_WORDS = [
-    b"exited 255", b"exited 256", b"none", b"killed 4294967295", b"killed 4294967296", b"badframe " + ZERO.encode(), b"budget", b"budget 1",
+    b"exited 255", b"exited 256", b"none", b"killed 4294967295", b"killed 4294967296",
+    b"badframe " + ZERO.encode(), b"budget", b"budget 1",
     b"tracefull", b"outputfull",
-    *(f"raised {name} {h(4)}{value}".encode() for name, values in {
-        "undefined": ["", " 00000000", " 0000000", " 1e604000 "], "pcalign": ["", " 0"], "fetch": ["", f" {ZERO}"],
-        "data": ["", f" {ZERO}", f" {ZERO} read", f" {ZERO} none"], "spalign": [""], "align": ["", f" {ZERO}"],
-        "illegalstreaming": [""], "notstreaming": [""], "zainactive": [""], "breakpoint": ["", " 65535", " 65536"],
-        "shared": ["", f" {ZERO}"], "unaligned": [""]}.items() for value in values),
+    *(f"raised {name} {h(4)}{value}".encode()
+      for name, values
+      in {"undefined": ["", " 00000000", " 0000000", " 1e604000 "], "pcalign": ["", " 0"],
+          "fetch": ["", f" {ZERO}"], "data": ["", f" {ZERO}", f" {ZERO} read", f" {ZERO} none"],
+          "spalign": [""], "align": ["", f" {ZERO}"], "illegalstreaming": [""],
+          "notstreaming": [""], "zainactive": [""], "breakpoint": ["", " 65535", " 65536"],
+          "shared": ["", f" {ZERO}"], "unaligned": [""]}.items() for value in values),
 ]
 
 def version_changes(report: Any, version: Any) -> Iterator[Any]:
-    """Lines of the other version, and of both, in the place of those of the first block that say which signals wait."""
+    """Lines of the other version, and of both, in the place of those of the first block that say
+    which signals wait."""
     own = "".join(line + "\n" for line in MASKING[version]).encode()
     start = report.index(own)
-    inside, mask, depth = (line + b"\n" for line in (b"inside 1", b"mask " + ZERO.encode(), b"depth 1"))
-    for lines in (inside, mask + depth, mask, depth, depth + mask, inside + mask + depth, mask + depth + inside, mask + inside, inside + depth,
-                  mask + depth + depth, b""):
+    inside, mask, depth = (line + b"\n"
+                           for line in (b"inside 1", b"mask " + ZERO.encode(), b"depth 1"))
+    for lines in (inside, mask + depth, mask, depth, depth + mask, inside + mask + depth,
+                  mask + depth + inside, mask + inside, inside + depth, mask + depth + depth, b""):
         yield start, start + len(own), lines
     for number in (b"0", b"1", b"2", b"3", b"02", b"12", b" 2", b"", b"two"):
         yield len(b"smemu-report "), len(b"smemu-report 1"), number
@@ -233,7 +245,9 @@ def byte_changes(line: Any, start: Any) -> Iterator[Any]:
     """The bytes of the line at which something begins, and its last one, each changed."""
     for i, byte in enumerate(line[:-1]):
         if i == 0 or line[i - 1:i] in b" =-" or line[i:i + 1] in b" =" or i + 2 == len(line):
-            yield start + i, start + i + 1, {32: b"  ", 61: b":"}.get(byte, b"0" if byte not in b"0" else b"7")
+            yield start + i, start + i + 1, {32: b"  ", 61: b":"}.get(byte,
+                                                                      b"0" if byte not in b"0"
+                                                                      else b"7")
             if byte in b"0123456789abcdef":
                 yield start + i, start + i + 1, bytes([byte]).upper() if byte > 57 else b"g"
                 yield start + i, start + i, b"0"
@@ -258,28 +272,43 @@ def changes(report: Any, kept: Any = range(0)) -> Iterator[Any]:
 
 
 def changes_of_two_threads(report: Any, version: Any) -> Iterator[Any]:
-    """The changes of such a report, of whose second block no byte is changed, lines of the other version, and fields that are just inside or outside
-    of what they may be."""
+    """The changes of such a report, of whose second block no byte is changed, lines of the other
+    version, and fields that are just inside or outside of what they may be."""
     yield from changes(report, range(report.index(b"thread 1"), report.index(b"shared")))
     yield from version_changes(report, version)
     fields = [
-        (b"vl=128", b"vl=384"), (b"svl=256", b"svl=2048"), (b"slice=1000", b"slice=1000000"), (b"slice=1000", b"slice=1000001"),
-        (b"budget=10000000", b"budget=4294967295"), (b"budget=10000000", b"budget=4294967296"), (b"budget=10000000", b"budget=0"),
-        (b"threads=2", b"threads=32"), (b"threads=2", b"threads=33"), (b"threads=2", b"threads=1"), (b"threads=2", b"threads=3"),
-        (b"count 70", b"count 4294967295"), (b"count 70", b"count 4294967296"), (b"turns 72", b"turns 18446744073709551615"),
-        (b"turns 72", b"turns 18446744073709551616"), (b"turns 72", b"turns 99999999999999999999999"), (b"x 30", b"x 4294967295"),
-        (b"x 30", b"x 4294967296"), (b"svcr 3", b"svcr 4294967296"), (b"z 31", b"z 99"), (b"z 31 ff", b"z 31 f"), (b"p 15 0100", b"p 15 "),
-        (b"ffr ffff", b"ffr f"), (b"za 2", b"za 4294967296"), (b"memory 65", b"memory 4294967295"), (b"memory 65", b"memory 4294967296"),
-        (b"handler 62", b"handler 4294967296"), (b"output 33", b"output 32"), (b"output 33", b"output 34"), (b"output 33", b"output 65"),
-        (b"output 33", b"output 4294967296"), (b"out 0a", b"out 0a0a"), (b"journal 2", b"journal 1"), (b"journal 2", b"journal 3"),
+        (b"vl=128", b"vl=384"), (b"svl=256", b"svl=2048"), (b"slice=1000", b"slice=1000000"),
+        (b"slice=1000", b"slice=1000001"),
+        (b"budget=10000000", b"budget=4294967295"), (b"budget=10000000", b"budget=4294967296"),
+        (b"budget=10000000", b"budget=0"),
+        (b"threads=2", b"threads=32"), (b"threads=2", b"threads=33"), (b"threads=2", b"threads=1"),
+        (b"threads=2", b"threads=3"),
+        (b"count 70", b"count 4294967295"), (b"count 70", b"count 4294967296"),
+        (b"turns 72", b"turns 18446744073709551615"),
+        (b"turns 72", b"turns 18446744073709551616"),
+        (b"turns 72", b"turns 99999999999999999999999"), (b"x 30", b"x 4294967295"),
+        (b"x 30", b"x 4294967296"), (b"svcr 3", b"svcr 4294967296"), (b"z 31", b"z 99"),
+        (b"z 31 ff", b"z 31 f"), (b"p 15 0100", b"p 15 "),
+        (b"ffr ffff", b"ffr f"), (b"za 2", b"za 4294967296"), (b"memory 65", b"memory 4294967295"),
+        (b"memory 65", b"memory 4294967296"),
+        (b"handler 62", b"handler 4294967296"), (b"output 33", b"output 32"),
+        (b"output 33", b"output 34"), (b"output 33", b"output 65"),
+        (b"output 33", b"output 4294967296"), (b"out 0a", b"out 0a0a"),
+        (b"journal 2", b"journal 1"), (b"journal 2", b"journal 3"),
         (b"journal 2", b"journal 4294967295"), (b"journal 2", b"journal 4294967296"),
         (b"e cas 511", b"e cas 4294967295"), (b"e cas 511", b"e cas 4294967296"),
-        (b"e cas", b"e mul"), (b"w 511", b"w 512"), (b"w 511", b"w 0"), (b"pending 1", b"pending 31"), (b"pending 1", b"pending 32"),
-        (b"end-thread", b"end"), (b"end-thread", b"event"), (b"w 0", b"wx 0"), (b"pending 1", b"pendings 1"),
-        (b"count 70\nturns 72", b"count 070\nturns \xff"), (b"count 70\nturns 72", b"count \xff\nturns 072"),
+        (b"e cas", b"e mul"), (b"w 511", b"w 512"), (b"w 511", b"w 0"),
+        (b"pending 1", b"pending 31"), (b"pending 1", b"pending 32"),
+        (b"end-thread", b"end"), (b"end-thread", b"event"), (b"w 0", b"wx 0"),
+        (b"pending 1", b"pendings 1"),
+        (b"count 70\nturns 72", b"count 070\nturns \xff"),
+        (b"count 70\nturns 72", b"count \xff\nturns 072"),
         *((b"exited 42", stop) for stop in STOP_WORDS),
-        *((b"depth 2", b"depth " + depth) for depth in (b"64", b"65", b"4294967295", b"4294967296", b"02", b"-1", b"2 ", b"") if version == 2),
-        *((b"mask 0000", b"mask " + digits) for digits in (b"000", b"00000", b"000A", b"ffff", b"0x00", b"") if version == 2),
+        *((b"depth 2", b"depth " + depth)
+          for depth in (b"64", b"65", b"4294967295", b"4294967296", b"02", b"-1", b"2 ", b"")
+          if version == 2),
+        *((b"mask 0000", b"mask " + digits)
+          for digits in (b"000", b"00000", b"000A", b"ffff", b"0x00", b"") if version == 2),
     ]
     for old, new in fields:
         at = report.index(old)

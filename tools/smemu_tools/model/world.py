@@ -1,10 +1,12 @@
-"""Prints what `run PROGRAM --threads N` and `sim PROGRAM PLAN` are to write, by a world of its own that shares nothing with the emulator.
+"""Prints what `run PROGRAM --threads N` and `sim PROGRAM PLAN` are to write, by a world of its own
+that shares nothing with the emulator.
 
     tools/smemu-tools world run FILE [OPTIONS]
     tools/smemu-tools world sim FILE PLAN [OPTIONS]
 
-The options are those of the command, and the status is that of the process. A thread's instructions, calls and signals are those of
-tools/smemu_tools/model/expected.py; here are the words that all threads share, the cores and the queue, the events, the plans and the history.
+The options are those of the command, and the status is that of the process. A thread's
+instructions, calls and signals are those of tools/smemu_tools/model/expected.py; here are the words
+that all threads share, the cores and the queue, the events, the plans and the history.
 """
 from __future__ import annotations
 
@@ -21,16 +23,18 @@ from smemu_tools.model.expected import KERNEL, OPERATIONS, SHARED, Raised, Threa
 PLACES = 8  # for residents on a core
 YIELD = 124
 SPENT, YIELDED, STOPPED = "spent", "yielded", "stopped"
-OPTIONS = {"vl": 128, "svl": 256, "slice": 1000, "budget": 10_000_000, "threads": 1, "cores": 1, "kernel": KERNEL}
+OPTIONS = {"vl": 128, "svl": 256, "slice": 1000, "budget": 10_000_000, "threads": 1, "cores": 1,
+           "kernel": KERNEL}
 
 
 class Guest(Thread):
-    """A thread of a world: its operations are on words that all threads share, and each is an entry of the world's history."""
+    """A thread of a world: its operations are on words that all threads share, and each is an entry
+    of the world's history."""
 
     def __init__(self, world: World, file: bytes, number: int) -> None:
         options = world.options
-        super().__init__(file, options["budget"], options["vl"], options["svl"], options["slice"], number, options["threads"],
-                         options["kernel"])
+        super().__init__(file, options["budget"], options["vl"], options["svl"], options["slice"],
+                         number, options["threads"], options["kernel"])
         self.world, self.stop, self.gave_way = world, None, False
 
     def ask(self, kind: str, address: int, base: int, a: int = 0, b: int = 0) -> int:
@@ -60,7 +64,8 @@ class Guest(Thread):
 
 
 class World:
-    """The queue, the residents of each core and the threads that are done, as lists of threads, and the words and the history."""
+    """The queue, the residents of each core and the threads that are done, as lists of threads, and
+    the words and the history."""
 
     def __init__(self, file: bytes, **options: int) -> None:
         self.options = {**OPTIONS, **options}
@@ -71,7 +76,8 @@ class World:
         self.cores = [[] for _ in range(self.options["cores"])]
 
     def refusal(self, kind: Any, number: int) -> str | None:
-        """Why an event of that kind is not enabled on the core of that number, if so: the first fact that holds."""
+        """Why an event of that kind is not enabled on the core of that number, if so: the first
+        fact that holds."""
         if number >= len(self.cores):
             return f"nocore {number}"
         residents = self.cores[number]
@@ -99,7 +105,8 @@ class World:
         return None
 
     def run(self, residents: list[Guest], turns: int) -> str:
-        """The first resident makes as many turns, or fewer where it yields or stops; one that has stopped is done."""
+        """The first resident makes as many turns, or fewer where it yields or stops; one that has
+        stopped is done."""
         thread = residents[0]
         last = thread.turns + turns
         while thread.turns < last:
@@ -125,8 +132,10 @@ class World:
 
     def report(self) -> list[str]:
         """The lines of the report; a thread that goes on has a stop of its own."""
-        named = " ".join(f"{name}={self.options[name]}" for name in ("vl", "svl", "slice", "budget", "threads"))
-        lines = [f"smemu-report {self.options['kernel']}", f"options {named}", f"image {self.image}"]
+        named = " ".join(f"{name}={self.options[name]}"
+                         for name in ("vl", "svl", "slice", "budget", "threads"))
+        lines = [f"smemu-report {self.options['kernel']}", f"options {named}",
+                 f"image {self.image}"]
         for thread in self.threads:
             lines += block(thread, thread.stop or "none", thread.number)
         lines.append("shared")
@@ -145,7 +154,8 @@ EVENTS = {"run": (CORE, TURNS), "next": (CORE,), "fetch": (CORE,), "offer": (COR
 
 
 def event_of(line: str) -> tuple[int | str, ...]:
-    """The event of a line: its name and its numbers. The words are judged from left to right, with one space between them."""
+    """The event of a line: its name and its numbers. The words are judged from left to right, with
+    one space between them."""
     name, *words = line.split(" ")
     if name not in EVENTS:
         raise BadPlan("unknown")
@@ -206,7 +216,8 @@ def sim(file: bytes, plan: Any, **options: int) -> tuple[int, str]:
 def main() -> Any:
     asked = parser(__doc__)
     asked.add_argument("command", choices=("run", "sim"))
-    asked.add_argument("words", nargs=argparse.REMAINDER, metavar="WORD", help="the words of that command")
+    asked.add_argument("words", nargs=argparse.REMAINDER, metavar="WORD",
+                       help="the words of that command")
     command, words = vars(asked.parse_args()).values()
     names, rest = (words[:1], words[1:]) if command == "run" else (words[:2], words[2:])
     options: dict[str, Any] = {name[2:]: int(value) for name, value in zip(rest[::2], rest[1::2])}

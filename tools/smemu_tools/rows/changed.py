@@ -1,10 +1,14 @@
-"""The list data/changed.txt: program files, a source, plans, scripts and vectors, each with changes, and what the command is to answer to them.
+"""The list data/changed.txt: program files, a source, plans, scripts and vectors, each with
+changes, and what the command is to answer to them.
 
-A line without a tab begins a group: the file that is changed, and the words of the command, among which `@` is the changed file and each other word with a `.` a
-file. Each other line is a case: for each change the range of the file's bytes that is changed and the bytes that take its place in hexadecimal or `-`; the status;
-and past a tab the text with `|` for each line feed, or `#`, its length, and the first 16 digits of its SHA-256. What is at fault in a program file says
-tools/smemu_tools/model/program_faults.py, in a source source_lines.py, in a plan world.py, in a script tools/smemu_tools/model/expected_debug.py, and of vectors tools/smemu_tools/model/expected_answers.py,
-which share nothing with the emulator.
+A line without a tab begins a group: the file that is changed, and the words of the command, among
+which `@` is the changed file and each other word with a `.` a file. Each other line is a case: for
+each change the range of the file's bytes that is changed and the bytes that take its place in
+hexadecimal or `-`; the status; and past a tab the text with `|` for each line feed, or `#`, its
+length, and the first 16 digits of its SHA-256. What is at fault in a program file says
+tools/smemu_tools/model/program_faults.py, in a source source_lines.py, in a plan world.py, in a
+script tools/smemu_tools/model/expected_debug.py, and of vectors
+tools/smemu_tools/model/expected_answers.py, which share nothing with the emulator.
 """
 from __future__ import annotations
 
@@ -21,12 +25,15 @@ from smemu_tools.model.program_faults import Refused, loaded
 from smemu_tools.model.world import sim
 
 SHORT = 80  # the longest text that stands in the list as it is
-# what a text of numbers and words may get: a digit, a blank, a letter, an end of line, and bytes that are no text
+# what a text of numbers and words may get: a digit, a blank, a letter, an end of line, and bytes
+# that are no text
 BYTES = b"019 x-\n\r\t\0\xff\xc3"
 # numbers inside and outside of what they may be
-NUMBERS = [b"0", b"1", b"00", b"01", b"7", b"8", b"63", b"64", b"255", b"256", b"4096", b"4097", b"65535", b"4294967295", b"4294967296", b"18446744073709551615",
-           b"18446744073709551616", b"99999999999999999999999", b"-1", b"+1", b"1.0", b"0x1", b""]
-ADDRESSES = [b"0x0", b"0xffffffffffffffff", b"0x10000000000000000", b"0X0", b"0x", b"0x7dffffffffff", b"0x7e0000000000", b"0x7f0000000000", b"0x7fffffffffff", b"00x1"]
+NUMBERS = [b"0", b"1", b"00", b"01", b"7", b"8", b"63", b"64", b"255", b"256", b"4096", b"4097",
+           b"65535", b"4294967295", b"4294967296", b"18446744073709551615", b"18446744073709551616",
+           b"99999999999999999999999", b"-1", b"+1", b"1.0", b"0x1", b""]
+ADDRESSES = [b"0x0", b"0xffffffffffffffff", b"0x10000000000000000", b"0X0", b"0x",
+             b"0x7dffffffffff", b"0x7e0000000000", b"0x7f0000000000", b"0x7fffffffffff", b"00x1"]
 REPEATED = re.compile(rb"(.)\1{31,}", re.DOTALL)
 
 
@@ -63,7 +70,10 @@ def of_text(content: Any) -> Iterator[Any]:
         yield from ((*number.span(), new) for new in ADDRESSES)
     for word in re.finditer(rb"[^ \n]+", content):
         start, end = word.span()
-        yield from ((start, end, new) for new in (b"", word.group() * 2, word.group() + b" " + word.group(), word.group().upper(), b"run", b"goto"))
+        yield from ((start, end, new)
+                    for new
+                    in (b"", word.group() * 2, word.group() + b" " + word.group(),
+                        word.group().upper(), b"run", b"goto"))
     starts = [0] + [i + 1 for i, byte in enumerate(content) if byte == 10]
     for start, end in zip(starts, starts[1:]):
         line = content[start:end]
@@ -74,7 +84,8 @@ def of_text(content: Any) -> Iterator[Any]:
 
 
 def of_vectors(content: Any) -> Iterator[Any]:
-    """Changes of which most leave vectors: a digit of a value, a field or a line left out, a line doubled, and lines in another order."""
+    """Changes of which most leave vectors: a digit of a value, a field or a line left out, a line
+    doubled, and lines in another order."""
     for field in re.finditer(rb" ([a-z0-9]+)=([0-9a-f]+)", content):
         digits = {b"nzcv": b"01", b"svcr": b"0123"}.get(field[1], b"0123456789abcdef")
         yield from of_bytes(content, range(*field.span(2)), lambda _: digits)
@@ -119,14 +130,17 @@ def of_numbers(file: Any, at: Any, size: Any) -> Iterator[Any]:
     """A field at the ends of its range, and beside what it is and beside the file's size."""
     old = int.from_bytes(file[at:at + size], "little")
     top = 1 << 8 * size
-    for value in dict.fromkeys([0, 1, 2, 3, 4, 7, old - 1, old + 1, old + 4, 2 * old, len(file), len(file) - 1, len(file) + 1, top // 2 - 1, top // 2, top - 64, top - 2, top - 1,
-                                0xFFFF, 1 << 46, (1 << 47) - 1, 1 << 47, 0x7DFFFFFC0000, 0x7F0000000FFF]):
+    for value in dict.fromkeys([0, 1, 2, 3, 4, 7, old - 1, old + 1, old + 4, 2 * old, len(file),
+                                len(file) - 1, len(file) + 1, top // 2 - 1, top // 2, top - 64,
+                                top - 2, top - 1, 0xFFFF, 1 << 46, (1 << 47) - 1, 1 << 47,
+                                0x7DFFFFFC0000, 0x7F0000000FFF]):
         if value != old and 0 <= value < top:
             yield at, at + size, value.to_bytes(size, "little")
 
 
 def of_program(file: Any) -> Iterator[Any]:
-    """Changes of a program file: its fields, its bytes, its tables, and the file cut and doubled."""
+    """Changes of a program file: its fields, its bytes, its tables, and the file cut and
+    doubled."""
     places = list(fields_of(file))
     for at, size in places:
         if size <= 8:
@@ -186,7 +200,8 @@ def ran(file: bytes, texts: dict[str, str], options: dict[str, int]) -> tuple[in
 def shortened(text: Any) -> Any:
     """A text as it stands in the list."""
     content = text if isinstance(text, bytes) else text.encode()
-    if len(content) <= SHORT and text and content.endswith(b"\n") and not set(content) & set(b"|\t\r"):
+    if len(content) <= SHORT and text and content.endswith(b"\n") and not set(content) & set(
+            b"|\t\r"):
         return content.decode().replace("\n", "|")
     return f"#{len(content)} {hashlib.sha256(content).hexdigest()[:16]}"
 
@@ -215,7 +230,8 @@ def case(content: Any, changes: Any, answer: Any) -> Any:
     return f"{changed}{status}\t{shortened(text)}\n"
 
 
-def group(base: Any, words: Any, content: Any, changes: Any, answer: Any, most: Any, seed: Any = 1) -> Any:
+def group(base: Any, words: Any, content: Any, changes: Any, answer: Any, most: Any,
+          seed: Any = 1) -> Any:
     """A group of at most so many cases, which are chosen evenly; each has one change or several."""
     changes = list(dict.fromkeys(changes))
     random.Random(seed).shuffle(changes)
@@ -224,7 +240,8 @@ def group(base: Any, words: Any, content: Any, changes: Any, answer: Any, most: 
         if len(lines) == most:
             break
         try:
-            lines.append(case(content, change if isinstance(change[0], tuple) else [change], answer))
+            lines.append(case(content, change if isinstance(change[0], tuple) else [change],
+                              answer))
         except Unknown:
             continue
     return f"{base} {words}\n" + "".join(sorted(lines)), len(lines)
@@ -232,25 +249,35 @@ def group(base: Any, words: Any, content: Any, changes: Any, answer: Any, most: 
 
 # ---- groups
 
-# the files that `dis` is asked of, and those that run, with the number of cases; of one each length below that of a header
-LISTED = {"hint-note-stack-and-sections": 420, "data-in-the-text": 300, "section-over-touching-loads": 200, "real-gnu": 300, "real-lld": 300, "answer": 180}
+# the files that `dis` is asked of, and those that run, with the number of cases; of one each length
+# below that of a header
+LISTED = {"hint-note-stack-and-sections": 420, "data-in-the-text": 300,
+          "section-over-touching-loads": 200, "real-gnu": 300, "real-lld": 300, "answer": 180}
 SHORTEST = "answer-with-budget-3.elf"
 RUN = {"loads-that-share-a-page": 150, "loads-in-any-order": 150}
 # the plans and the scripts of rows, with the number of cases of each
-PLANS = {"plan-has-every-refusal.plan": 500, "plan-of-the-example.plan": 400, "plan-runs-part-of-the-answer.plan": 298,
-         "plan-moves-on-in-a-handler.plan": 400, "plan-nested-is-moved-and-goes-on-to-the-end-at-128.plan": 350}
-SCRIPTS = {"debug-shows-all-in-the-middle.script": 500, "debug-goes-back-over-a-delivery.script": 500, "debug-nested-goes-over-each-return.script": 400,
-           "debug-breaks-in-a-loop.script": 300, "debug-slices-as-za-is-filled.script": 300}
-# the files of vectors, at the lengths that are taken without options, with the number of cases of each sort of changes
+PLANS = {"plan-has-every-refusal.plan": 500, "plan-of-the-example.plan": 400,
+         "plan-runs-part-of-the-answer.plan": 298, "plan-moves-on-in-a-handler.plan": 400,
+         "plan-nested-is-moved-and-goes-on-to-the-end-at-128.plan": 350}
+SCRIPTS = {"debug-shows-all-in-the-middle.script": 500,
+           "debug-goes-back-over-a-delivery.script": 500,
+           "debug-nested-goes-over-each-return.script": 400, "debug-breaks-in-a-loop.script": 300,
+           "debug-slices-as-za-is-filled.script": 300}
+# the files of vectors, at the lengths that are taken without options, with the number of cases of
+# each sort of changes
 VECTORS = {"mixed-lines-128-256.vectors": {of_text: 800, of_vectors: 1200}}
 
 
 def programs(contents: Any, texts: Any) -> Iterator[Any]:
-    yield group(SHORTEST, "run @", contents[SHORTEST], cuts(contents[SHORTEST], range(64)), lambda file: listing(file, texts), 64)
+    yield group(SHORTEST, "run @", contents[SHORTEST],
+                cuts(contents[SHORTEST], range(64)), lambda file: listing(file, texts), 64)
     for name, most in LISTED.items():
-        yield group(f"{name}.elf", "dis @", contents[f"{name}.elf"], of_program(contents[f"{name}.elf"]), lambda file: listing(file, texts), most)
+        yield group(f"{name}.elf", "dis @", contents[f"{name}.elf"],
+                    of_program(contents[f"{name}.elf"]), lambda file: listing(file, texts), most)
     for name, most in RUN.items():
-        yield group(f"{name}.elf", "run @ --budget 50", contents[f"{name}.elf"], of_program(contents[f"{name}.elf"]), lambda file: ran(file, texts, {"budget": 50}), most)
+        yield group(f"{name}.elf", "run @ --budget 50", contents[f"{name}.elf"],
+                    of_program(contents[f"{name}.elf"]),
+                    lambda file: ran(file, texts, {"budget": 50}), most)
 
 
 def options_in(words: list[str]) -> dict[str, int]:
@@ -282,10 +309,12 @@ def scripts(rows: Any, contents: Any, texts: Any) -> Iterator[Any]:
 def vectors(contents: Any, texts: Any) -> Iterator[Any]:
     for name, sorts in VECTORS.items():
         for changes, most in sorts.items():
-            yield group(name, "vectors @ --cores 2", contents[name], changes(contents[name]), lambda file: answered_vectors(file, texts), most)
+            yield group(name, "vectors @ --cores 2", contents[name],
+                        changes(contents[name]), lambda file: answered_vectors(file, texts), most)
 
 
 def changed_list(rows: Any, contents: Any, texts: Any, source: Any) -> Any:
     """The whole list; the group of a source is made beside it."""
-    groups = [*programs(contents, texts), source, *plans(rows, contents), *scripts(rows, contents, texts), *vectors(contents, texts)]
+    groups = [*programs(contents, texts), source, *plans(rows, contents),
+              *scripts(rows, contents, texts), *vectors(contents, texts)]
     return "".join(text for text, _ in groups)

@@ -1,8 +1,11 @@
-"""The list data/frames.txt: a handler changes one byte of its frame, at each place of the head and at the borders of what follows it, under both kernels.
+"""The list data/frames.txt: a handler changes one byte of its frame, at each place of the head and
+at the borders of what follows it, under both kernels.
 
-Which byte it is, and what is added to it, the handler reads from two shared words, so a report's journal says it: a case changes the answers of these two
-operations in a report, and `replay` tells where the run of the thread is another one then, or with which line its block begins to be another. The lines are
-those of changed.py; what is to be written comes from tools/smemu_tools/model/expected_replay.py.
+Which byte it is, and what is added to it, the handler reads from two shared words, so a report's
+journal says it: a case changes the answers of these two operations in a report, and `replay` tells
+where the run of the thread is another one then, or with which line its block begins to be another.
+The lines are those of changed.py; what is to be written comes from
+tools/smemu_tools/model/expected_replay.py.
 """
 from __future__ import annotations
 
@@ -22,7 +25,9 @@ OPTIONS = {"slice": 40, "budget": 120, "svl": 128}
 HEADS = {1: 320, 2: 336}
 LENGTH, ARRAY = 16, 16
 # of each program what is done before the signal comes, and whether its frame has ZA
-PROGRAMS = {"frames": ([], False), "frames-with-za": ([SMSTART, PTRUE_P0_B, index(0, 1, 1), dup(1, 3), SMOPA_ZA0_Z0_Z1], True)}
+PROGRAMS = {"frames": ([], False),
+            "frames-with-za": ([SMSTART, PTRUE_P0_B, index(0, 1, 1), dup(1, 3), SMOPA_ZA0_Z0_Z1],
+                               True)}
 
 
 def program(modes: Any) -> Any:
@@ -30,9 +35,11 @@ def program(modes: Any) -> Any:
 
 
 def places(version: Any, with_za: Any) -> Iterator[Any]:
-    """The places of bytes: all of the head, and of each part past it the first and the last byte."""
+    """The places of bytes: all of the head, and of each part past it the first and the last
+    byte."""
     head = HEADS[version]
-    parts = [32 * LENGTH, 16 * LENGTH // 8, LENGTH // 8, 32 - LENGTH // 8, *[ARRAY * ARRAY] * with_za, 4096]
+    parts = [32 * LENGTH, 16 * LENGTH // 8, LENGTH // 8, 32 - LENGTH // 8,
+             *[ARRAY * ARRAY] * with_za, 4096]
     yield from range(head)
     for size in parts:
         yield head
@@ -52,7 +59,8 @@ def cases(file: Any, text: Any, with_za: Any) -> Iterator[Any]:
     first, second = answer_end(text, 0), answer_end(text, 1)
     for at in places(version, with_za):
         for added in (1, 0x80):
-            changes = [(first - 4, first, f"{at:04x}".encode()), (second - 2, second, f"{added:02x}".encode())]
+            changes = [(first - 4, first, f"{at:04x}".encode()),
+                       (second - 2, second, f"{added:02x}".encode())]
             yield case(text.encode(), changes, lambda changed: replay(file, changed.decode()))
 
 
@@ -64,5 +72,6 @@ def frames() -> Any:
         for version in (1, 2):
             reported = f"{name}-version-{version}.report"
             reports[reported] = report(files[name], kernel=version, **OPTIONS)
-            lines += [f"{reported} replay {name}.elf @ 0\n", *cases(files[name], reports[reported], with_za)]
+            lines += [f"{reported} replay {name}.elf @ 0\n",
+                      *cases(files[name], reports[reported], with_za)]
     return files, reports, "".join(lines)

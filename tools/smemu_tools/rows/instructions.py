@@ -51,7 +51,8 @@ def calls(place: str) -> tuple[int, str]:
 
 
 def laid_out(*parts: Any) -> list[int]:
-    """The words of parts in a row: a name is that of the place where it stands, and a pair is a word that has the distance to a named place."""
+    """The words of parts in a row: a name is that of the place where it stands, and a pair is a
+    word that has the distance to a named place."""
     places, count = {}, 0
     for part in parts:
         if isinstance(part, str):

@@ -1,10 +1,12 @@
-"""Writes data/lane-steps-VL-SVL.vectors with their answers: steps of outer products and of unpredicated operations on two vectors, at each vector length.
+"""Writes data/lane-steps-VL-SVL.vectors with their answers: steps of outer products and of
+unpredicated operations on two vectors, at each vector length.
 
     tools/smemu-tools lane-steps
 
-These are the instructions that the emulator makes many lanes at a time. What each gives is reckoned here, element by element, over whole
-numbers; nothing is shared with the emulator. A step has the vector length in bits, that of Streaming SVE mode, the word with the state
-before it, and the state after it, in which all else is zero.
+These are the instructions that the emulator makes many lanes at a time. What each gives is reckoned
+here, element by element, over whole numbers; nothing is shared with the emulator. A step has the
+vector length in bits, that of Streaming SVE mode, the word with the state before it, and the state
+after it, in which all else is zero.
 """
 from __future__ import annotations
 
@@ -18,12 +20,14 @@ LENGTHS = (128, 256, 512, 1024, 2048)
 PC = "next pc=0000000000020004"
 # the sums of an outer product by the signs of Zn and Zm: 1 is without a sign
 OUTER = {(0, 0): 0xA0800000, (0, 1): 0xA0A00000, (1, 0): 0xA1800000, (1, 1): 0xA1A00000}
-ARITHMETIC = {"add": 0x04200000, "sub": 0x04200400, "sqadd": 0x04201000, "uqadd": 0x04201400, "sqsub": 0x04201800, "uqsub": 0x04201C00}
+ARITHMETIC = {"add": 0x04200000, "sub": 0x04200400, "sqadd": 0x04201000, "uqadd": 0x04201400,
+              "sqsub": 0x04201800, "uqsub": 0x04201C00}
 LOGICAL = {"and": 0x04203000, "orr": 0x04603000, "eor": 0x04A03000, "bic": 0x04E03000}
 
 
 def elements(data: Any, size: Any, is_signed: Any) -> Any:
-    return [int.from_bytes(data[at:at + size], "little", signed=is_signed) for at in range(0, len(data), size)]
+    return [int.from_bytes(data[at:at + size], "little", signed=is_signed)
+            for at in range(0, len(data), size)]
 
 
 def joined(values: Any, size: Any) -> Any:
@@ -38,13 +42,16 @@ def least(size: Any) -> Any:
 def source(rng: Any, length: Any, size: Any) -> Any:
     """Elements of which one in two is the least, the greatest, zero or one from either side."""
     ends = [1 << 8 * size - 1, (1 << 8 * size - 1) - 1, (1 << 8 * size) - 1, 0, 1]
-    return joined([rng.choice(ends) if rng.random() < 0.5 else rng.getrandbits(8 * size) for _ in range(length // size)], size)
+    return joined([rng.choice(ends) if rng.random() < 0.5 else rng.getrandbits(8 * size)
+                   for _ in range(length // size)], size)
 
 
 def line(vl: Any, svl: Any, word: Any, svcr: Any, before: Any, after: Any) -> Any:
-    """A line of the registers before and after, by name; those that are zero are left out after it."""
+    """A line of the registers before and after, by name; those that are zero are left out after
+    it."""
     mode = f" svcr={svcr}" * bool(svcr)
-    fields = lambda state: "".join(f" {key}={value.hex()}" for key, value in state.items() if any(value))
+    fields = lambda state: "".join(f" {key}={value.hex()}" for key, value in state.items()
+                                   if any(value))
     return f"{vl}\t{svl}\t{word:08x}{mode}{fields(before)}\t{PC}{mode}{fields(after)}"
 
 
@@ -53,7 +60,8 @@ def bits(truths: Any) -> Any:
 
 
 def outer_product(rng: Any, svl: Any, kind: Any, halves: Any, subtract: Any, whole: Any) -> Any:
-    """An outer product; `whole` with the least element in each place of both sources, else under predicates of some elements."""
+    """An outer product; `whole` with the least element in each place of both sources, else under
+    predicates of some elements."""
     length = svl // 8
     size = 2 if halves else 1
     wide = 4 * size
@@ -69,8 +77,10 @@ def outer_product(rng: Any, svl: Any, kind: Any, halves: Any, subtract: Any, who
         chosen = set(rng.sample(range(count), min(count, 4)))
         rows = [at // wide in chosen and rng.random() < 0.7 for at in range(length)]
         columns = [rng.random() < 0.7 for _ in range(length)]
-    n = [value if rows[size * i] else 0 for i, value in enumerate(elements(first, size, not kind[0]))]
-    m = [value if columns[size * i] else 0 for i, value in enumerate(elements(second, size, not kind[1]))]
+    n = [value if rows[size * i] else 0
+         for i, value in enumerate(elements(first, size, not kind[0]))]
+    m = [value if columns[size * i] else 0
+         for i, value in enumerate(elements(second, size, not kind[1]))]
     touched = [r for r in range(count) if any(n[4 * r:4 * r + 4])][:4]
     array = {r * wide + tile: source(rng, length, wide) for r in touched}
     array[(tile + 1) % wide] = source(rng, length, wide)
@@ -78,26 +88,33 @@ def outer_product(rng: Any, svl: Any, kind: Any, halves: Any, subtract: Any, who
     for r in range(count):
         row = elements(array.get(r * wide + tile, bytes(length)), wide, False)
         sums = [sum(n[4 * r + k] * m[4 * c + k] for k in range(4)) for c in range(count)]
-        after[r * wide + tile] = joined([a - b if subtract else a + b for a, b in zip(row, sums)], wide)
+        after[r * wide + tile] = joined([a - b if subtract else a + b for a, b in zip(row, sums)],
+                                        wide)
     if whole and kind == (0, 0) and not halves:
         assert set(sums) == {65536}
-    word = OUTER[kind] | halves << 22 | zm << 16 | pm << 13 | pn << 10 | zn << 5 | subtract << 4 | tile
+    word = (OUTER[kind] | halves << 22 | zm << 16 | pm << 13 | pn << 10 | zn << 5 | subtract << 4
+            | tile)
     registers = {f"z{i}": data for i, data in sorted({zn: first, zm: second}.items())}
-    registers.update((f"p{i}", bits(truths)) for i, truths in sorted({pn: rows, pm: columns}.items()))
+    registers.update((f"p{i}", bits(truths))
+                     for i, truths in sorted({pn: rows, pm: columns}.items()))
     named = lambda vectors: {**registers, **{f"za{v}": data for v, data in sorted(vectors.items())}}
     return line(128, svl, word, 3, named(array), named(after))
 
 
 def saturated(value: Any, size: Any, is_signed: Any) -> Any:
-    low, high = (-(1 << 8 * size - 1), (1 << 8 * size - 1) - 1) if is_signed else (0, (1 << 8 * size) - 1)
+    low, high = (-(1 << 8 * size - 1), (1 << 8 * size - 1) - 1) if is_signed else (0,
+                                                                                   (1 << 8 * size)
+                                                                                   - 1)
     return min(max(value, low), high)
 
 
 def value_of(name: Any, a: Any, b: Any, size: Any) -> Any:
-    """What an operation gives of two elements, which are numbers with a sign where its name begins with sq."""
+    """What an operation gives of two elements, which are numbers with a sign where its name begins
+    with sq."""
     if name in ("sqadd", "uqadd", "sqsub", "uqsub"):
         return saturated(a + b if name.endswith("add") else a - b, size, name[0] == "s")
-    return {"add": a + b, "sub": a - b, "and": a & b, "orr": a | b, "eor": a ^ b, "bic": a & ~b}[name]
+    return {"add": a + b, "sub": a - b, "and": a & b, "orr": a | b, "eor": a ^ b,
+            "bic": a & ~b}[name]
 
 
 def operation(rng: Any, vl: Any, name: Any, word: Any, size: Any, is_logical: Any) -> Any:
@@ -118,7 +135,8 @@ def lines() -> Iterator[Any]:
         for halves in (0, 1):
             for kind in OUTER:
                 for subtract in (0, 1):
-                    yield outer_product(rng, length, kind, halves, subtract, kind == (0, 0) and not subtract)
+                    yield outer_product(rng, length, kind, halves, subtract,
+                                        kind == (0, 0) and not subtract)
         for size in (1, 2, 4, 8):
             for name, word in ARITHMETIC.items():
                 yield operation(rng, length, name, word, size, False)

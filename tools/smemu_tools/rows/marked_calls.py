@@ -1,9 +1,12 @@
-"""Says of a recorded run whether each marked call had a lawful callee, as `abi-check` is to tell it.
+"""Says of a recorded run whether each marked call had a lawful callee, as `abi-check` is to tell
+it.
 
     tools/smemu-tools marked-calls FILE REPORT THREAD
 
-The thread runs on the interpreters of tools/smemu_tools/model/expected.py and expected_replay.py; the words of the routines and of the tail are those of lazy.py. A call is
-marked where the tail stands behind it, whose BL names the words of __arm_tpidr2_restore, before which those of __arm_za_disable stand.
+The thread runs on the interpreters of tools/smemu_tools/model/expected.py and expected_replay.py;
+the words of the routines and of the tail are those of lazy.py. A call is marked where the tail
+stands behind it, whose BL names the words of __arm_tpidr2_restore, before which those of
+__arm_za_disable stand.
 """
 from __future__ import annotations
 
@@ -36,7 +39,8 @@ def mapped(thread: Any, need: Any, address: Any, count: Any) -> Any:
 
 
 def content(thread: Any, address: Any, count: Any) -> Any:
-    return bytes(thread.pages[(address + k & MASK) // 4096][1][(address + k) % 4096] for k in range(count))
+    return bytes(thread.pages[(address + k & MASK) // 4096][1][(address + k) % 4096]
+                 for k in range(count))
 
 
 def word(thread: Any, address: Any, need: Any = ANY) -> Any:
@@ -51,12 +55,14 @@ def are_words(thread: Any, address: Any, words: Any) -> Any:
 
 
 def is_private(thread: Any, need: Any, address: Any, count: Any) -> Any:
-    return not any((address + k & MASK) in SHARED for k in range(count)) and mapped(thread, need, address, count)
+    return not any((address + k & MASK) in SHARED for k in range(count)) and mapped(thread, need,
+                                                                                    address, count)
 
 
 def has_words(thread: Any, address: Any, count: Any) -> Any:
     """The words that stand there can be executed and read."""
-    return address % 4 == 0 and mapped(thread, EXECUTE, address, count) and mapped(thread, READ, address, count)
+    return address % 4 == 0 and mapped(thread, EXECUTE, address, count) and mapped(thread, READ,
+                                                                                   address, count)
 
 
 def apart(a: Any, n: Any, b: Any, k: Any) -> Any:
@@ -75,7 +81,8 @@ class Call:
 
     def __init__(self, thread: Any, tail: Any, restore: Any) -> None:
         self.tail, self.restore, self.disable = tail, restore, restore - 80 & MASK
-        self.sp, self.depth, self.block, self.size = thread.sp, thread.depth, thread.x[19], thread.matrix.lengths[1]
+        self.sp, self.depth, self.block, self.size = (thread.sp, thread.depth, thread.x[19],
+                                                      thread.matrix.lengths[1])
         self.za = [bytes(vector) for vector in thread.matrix.za]
         self.dormant = self.is_dormant(thread)
         if self.dormant:
@@ -83,18 +90,23 @@ class Call:
 
     def is_dormant(self, thread: Any) -> Any:
         b = self.block
-        if not thread.matrix.on or thread.tpidr2 != b or b == 0 or b % 16 or not is_private(thread, READ, b, 16):
+        if not thread.matrix.on or thread.tpidr2 != b or b == 0 or b % 16 or not is_private(thread,
+                                                                                            READ, b,
+                                                                                            16):
             return False
         block = content(thread, b, 16)
-        self.buffer, slices = int.from_bytes(block[:8], "little"), int.from_bytes(block[8:10], "little")
+        self.buffer, slices = int.from_bytes(block[:8], "little"), int.from_bytes(block[8:10],
+                                                                                  "little")
         self.saved = slices if self.buffer else 0
         count = self.saved * self.size
         if any(block[10:]) or slices > self.size or self.buffer + count > 1 << 64:
             return False
-        if not (is_private(thread, READ, self.buffer, count) and is_private(thread, WRITE, self.buffer, count)):
+        if not (is_private(thread, READ, self.buffer, count)
+                and is_private(thread, WRITE, self.buffer, count)):
             return False
         return (all(has_words(thread, at, size) for at, size in self.words())
-                and all(apart(self.buffer, count, at, size) for at, size in [(b, 16), *self.words()]))
+                and all(apart(self.buffer, count, at, size)
+                        for at, size in [(b, 16), *self.words()]))
 
     def words(self) -> Any:
         return (self.disable, 80), (self.restore, 72), (self.tail, 24)
@@ -110,8 +122,10 @@ class Call:
         if not self.dormant or self.watched(thread) != self.kept or thread.x[19] != self.block:
             return False
         if thread.matrix.on:
-            return thread.tpidr2 == self.block and [bytes(vector) for vector in thread.matrix.za] == self.za
-        return thread.tpidr2 == 0 and all(content(thread, self.buffer + i * self.size, self.size) == self.za[i] for i in range(self.saved))
+            return thread.tpidr2 == self.block and [bytes(vector)
+                                                    for vector in thread.matrix.za] == self.za
+        return thread.tpidr2 == 0 and all(content(thread, self.buffer + i * self.size, self.size)
+                                          == self.za[i] for i in range(self.saved))
 
 
 def marked(thread: Any, tail: Any) -> Any:
@@ -120,7 +134,9 @@ def marked(thread: Any, tail: Any) -> Any:
     if bl is None or bl >> 26 != 0x25:
         return None
     restore = tail + 16 + 4 * signed(bl, 26) & MASK
-    if are_words(thread, tail, [*TAIL[:4], bl, TAIL[5]]) and are_words(thread, restore, RESTORE) and are_words(thread, restore - 80 & MASK, DISABLE):
+    if are_words(thread, tail, [*TAIL[:4], bl, TAIL[5]]) and are_words(thread, restore,
+                                                                       RESTORE) and are_words(
+            thread, restore - 80 & MASK, DISABLE):
         return Call(thread, tail, restore)
     return None
 
@@ -148,10 +164,12 @@ class Watch:
 
 
 def watched_run(thread: Any, count: Any) -> Any:
-    """The line that is told of the run, which is to stop at that count with all events used, and the status."""
+    """The line that is told of the run, which is to stop at that count with all events used, and
+    the status."""
     watch, told, stop = Watch(), None, None
     while stop is None:
-        before, past = thread.count, thread.pc + 4 & MASK if is_call(word(thread, thread.pc, EXECUTE)) else None
+        before, past = thread.count, thread.pc + 4 & MASK if is_call(word(thread, thread.pc,
+                                                                          EXECUTE)) else None
         try:
             stop = thread.turn()
         except Parts as parts:
@@ -167,7 +185,8 @@ def watched_run(thread: Any, count: Any) -> Any:
         raise Ends(DIFFERS, f"differs: endsearly {thread.count} {stop}\n")
     if len(thread.journal) < len(thread.events):
         raise Ends(DIFFERS, f"differs: journallong {len(thread.events) - len(thread.journal)}\n")
-    return (UNLAWFUL, told) if told else (0, f"abi yes calls {watch.returned} open {len(watch.open)}\n")
+    return ((UNLAWFUL, told) if told
+            else (0, f"abi yes calls {watch.returned} open {len(watch.open)}\n"))
 
 
 def abi_check(file: Any, report: Any, number: Any) -> Any:

@@ -1,7 +1,8 @@
 """A source whose lines are moved about, and what `asm` answers to it then.
 
-The words of its instructions are written out, as LLVM gives them, and those with a label are put together by their encodings in DDI 0487; directives, labels,
-the order of the faults and the layout of the file are those of docs/ASSEMBLY.md. A line that is not known makes the answer unknown.
+The words of its instructions are written out, as LLVM gives them, and those with a label are put
+together by their encodings in DDI 0487; directives, labels, the order of the faults and the layout
+of the file are those of docs/ASSEMBLY.md. A line that is not known makes the answer unknown.
 """
 from __future__ import annotations
 
@@ -45,11 +46,16 @@ bytes: .byte 1, 2, 255
     .zero 5
     .quad end, 18446744073709551615
 """
-WORDS = {"movz x0, #3": 0xD2800060, "ldr x2, [x1]": 0xF9400022, "add x3, x3, x2": 0x8B020063, "subs x0, x0, #1": 0xF1000400, "movz x4, #7": 0xD28000E4,
-         "ret": 0xD65F03C0, "movz x8, #93": 0xD2800BA8, "svc #0": 0xD4000001}
-# the word of an instruction with a label, from the number of instructions, or of bytes of ADR, to it
-TO_LABEL = {"adr x1": lambda d: 0x10000001 | (d & 3) << 29 | (d >> 2 & 0x7FFFF) << 5, "b.ne": lambda d: 0x54000001 | (d >> 2 & 0x7FFFF) << 5,
-            "cbz x3": lambda d: 0xB4000003 | (d >> 2 & 0x7FFFF) << 5, "bl": lambda d: 0x94000000 | d >> 2 & 0x3FFFFFF, "b": lambda d: 0x14000000 | d >> 2 & 0x3FFFFFF}
+WORDS = {"movz x0, #3": 0xD2800060, "ldr x2, [x1]": 0xF9400022, "add x3, x3, x2": 0x8B020063,
+         "subs x0, x0, #1": 0xF1000400, "movz x4, #7": 0xD28000E4, "ret": 0xD65F03C0,
+         "movz x8, #93": 0xD2800BA8, "svc #0": 0xD4000001}
+# the word of an instruction with a label, from the number of instructions, or of bytes of ADR, to
+# it
+TO_LABEL = {"adr x1": lambda d: 0x10000001 | (d & 3) << 29 | (d >> 2 & 0x7FFFF) << 5,
+            "b.ne": lambda d: 0x54000001 | (d >> 2 & 0x7FFFF) << 5,
+            "cbz x3": lambda d: 0xB4000003 | (d >> 2 & 0x7FFFF) << 5,
+            "bl": lambda d: 0x94000000 | d >> 2 & 0x3FFFFFF,
+            "b": lambda d: 0x14000000 | d >> 2 & 0x3FFFFFF}
 NAME = "[a-z_]+"
 SIZES = {".quad": 8, ".word": 4, ".byte": 1}
 
@@ -69,7 +75,8 @@ def number(text: Any, line: Any, column: Any, top: Any) -> Any:
 
 
 class Assembler:
-    """What the lines so far come to: in each part bytes, and places that labels say; in the text the places of instructions."""
+    """What the lines so far come to: in each part bytes, and places that labels say; in the text
+    the places of instructions."""
 
     def __init__(self) -> None:
         self.parts, self.part = {"text": bytearray(), "data": bytearray()}, "text"
@@ -127,7 +134,9 @@ class Assembler:
 
     def branch(self, line: Any, words: Any) -> None:
         found = re.fullmatch(f"(.*[a-z0-9]),? ({NAME})", words)
-        if not found or found.group(1) not in TO_LABEL or ("," in words) != (found.group(1) in ("adr x1", "cbz x3")) or found.group(2) in ("x0", "sp"):
+        if (not found or found.group(1) not in TO_LABEL
+                or ("," in words) != (found.group(1) in ("adr x1", "cbz x3"))
+                or found.group(2) in ("x0", "sp")):
             raise Unknown
         self.check_place()
         self.later(4, found.group(2), line, TO_LABEL[found.group(1)], True)
@@ -140,12 +149,14 @@ class Assembler:
             if name == ".quad" and re.fullmatch(NAME, word):
                 self.later(8, word, line, None, False)
             else:
-                self.put(number(word, line, column, 1 << 8 * SIZES[name]).to_bytes(SIZES[name], "little"), False)
+                self.put(number(word, line, column, 1 << 8 * SIZES[name]).to_bytes(SIZES[name],
+                                                                                   "little"), False)
 
     def marks(self) -> Any:
         """Where words of code and of data begin in the text; what is no whole word has no mark."""
         kinds = [at in self.code for at in range(0, len(self.parts["text"]) // 4 * 4, 4)]
-        return [(TEXT + 4 * k, kind) for k, kind in enumerate(kinds) if k == 0 or kinds[k - 1] != kind]
+        return [(TEXT + 4 * k, kind) for k, kind in enumerate(kinds)
+                if k == 0 or kinds[k - 1] != kind]
 
     def address(self, part: Any, at: Any) -> Any:
         return TEXT + at + (0 if part == "text" else -(-len(self.parts["text"]) // LIMIT) * LIMIT)
@@ -164,7 +175,8 @@ class Assembler:
         part, start = self.labels.get("_start", ("data", 0))
         if part != "text" or start % 4 or start >= len(self.parts["text"]):
             raise Fault("line 0: nostart")
-        return assembled(bytes(self.parts["text"]), bytes(self.parts["data"]), TEXT + start, self.marks())
+        return assembled(bytes(self.parts["text"]), bytes(self.parts["data"]), TEXT + start,
+                         self.marks())
 
 
 def asm(source: Any) -> Any:
@@ -183,7 +195,8 @@ def asm(source: Any) -> Any:
 
 
 def changes() -> Iterator[Any]:
-    """Lines removed, doubled, moved and swapped, the source cut after each and doubled, bytes that are no text, and numbers of directives."""
+    """Lines removed, doubled, moved and swapped, the source cut after each and doubled, bytes that
+    are no text, and numbers of directives."""
     starts = [0] + [i + 1 for i, byte in enumerate(SOURCE) if byte == 10]
     spans = list(zip(starts, starts[1:]))
     yield len(SOURCE), len(SOURCE), SOURCE
@@ -204,8 +217,12 @@ def changes() -> Iterator[Any]:
         for byte in (b"\xff", b"\xc3", b"\xed\xa0\x80"):
             yield at, at, byte
     for found in re.finditer(rb"(?<=[ ,])(?:0x[0-9a-f]+|[0-9]+)(?=[,\n])", SOURCE):
-        yield from ((*found.span(), new) for new in (b"0", b"00", b"01", b"255", b"256", b"0xff", b"0x100", b"4294967295", b"4294967296", b"18446744073709551615",
-                                                     b"18446744073709551616", b"0xffffffffffffffff", b"0x10000000000000000", b"99999999999999999999999"))
+        yield from ((*found.span(), new)
+                    for new
+                    in (b"0", b"00", b"01", b"255", b"256", b"0xff", b"0x100", b"4294967295",
+                        b"4294967296", b"18446744073709551615", b"18446744073709551616",
+                        b"0xffffffffffffffff", b"0x10000000000000000", b"99999999999999999999999"))
     for found in re.finditer(rb"[a-z_]+(?=\n|:| )", SOURCE):
         if found.group() in (b"next", b"end", b"leaf", b"words", b"table", b"_start"):
-            yield from ((*found.span(), new) for new in (b"next", b"end", b"leaf", b"others", b"_start", b"_"))
+            yield from ((*found.span(), new)
+                        for new in (b"next", b"end", b"leaf", b"others", b"_start", b"_"))

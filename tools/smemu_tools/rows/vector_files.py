@@ -1,10 +1,12 @@
-"""Files of vectors with their answers (docs/VECTORS.md): data/NAME-VL-SVL.vectors, and the same name with `.txt` behind it.
+"""Files of vectors with their answers (docs/VECTORS.md): data/NAME-VL-SVL.vectors, and the same
+name with `.txt` behind it.
 
     tools/smemu-tools vector-files NAME < STEPS
     tools/smemu-tools vector-files check
 
-The first splits steps into files, one for each pair of lengths; a step is VL, SVL, the line of a vector and its answer, with tabs between them. The second compares the answers
-of each file with those of tools/smemu_tools/model/expected_answers.py, and says in which file and line one differs.
+The first splits steps into files, one for each pair of lengths; a step is VL, SVL, the line of a
+vector and its answer, with tabs between them. The second compares the answers of each file with
+those of tools/smemu_tools/model/expected_answers.py, and says in which file and line one differs.
 """
 from __future__ import annotations
 
@@ -33,7 +35,8 @@ def files() -> Iterator[Any]:
 
 
 def vector_rows() -> Iterator[Any]:
-    """A row of each file for each number of workers; the lengths of the options need not be said where they are those that are taken without them."""
+    """A row of each file for each number of workers; the lengths of the options need not be said
+    where they are those that are taken without them."""
     for name, content, text in files():
         vl, svl = lengths_of(name)
         status = BAD_VECTORS if text.startswith(b"bad vectors: ") else DONE
@@ -59,12 +62,16 @@ def write(name: Any, steps: Any) -> None:
 
 
 def check() -> Any:
-    """Prints each line of an answer that is not the interpreter's, and how many there are; whether all are."""
+    """Prints each line of an answer that is not the interpreter's, and how many there are; whether
+    all are."""
     count = faults = 0
     for name, content, text in files():
-        wanted, given = text.decode().splitlines(), answers(content, *lengths_of(name))[1].splitlines()
-        differing = [number for number in range(max(len(wanted), len(given))) if wanted[number:number + 1] != given[number:number + 1]]
-        print(*(f"{name}: line {number + 1} differs" for number in differing), sep="\n", end="\n" * bool(differing))
+        wanted, given = text.decode().splitlines(), answers(content,
+                                                            *lengths_of(name))[1].splitlines()
+        differing = [number for number in range(max(len(wanted), len(given)))
+                     if wanted[number:number + 1] != given[number:number + 1]]
+        print(*(f"{name}: line {number + 1} differs" for number in differing), sep="\n",
+              end="\n" * bool(differing))
         count, faults = count + len(wanted), faults + len(differing)
     print(f"{count} answers, {faults} differ")
     return not faults
@@ -72,7 +79,8 @@ def check() -> Any:
 
 def main() -> Any:
     words = parser(__doc__)
-    words.add_argument("name", metavar="NAME", help="of a file, whose steps are read from standard input, or `check`")
+    words.add_argument("name", metavar="NAME",
+                       help="of a file, whose steps are read from standard input, or `check`")
     name = words.parse_args().name
     if name == "check":
         return 0 if check() else 1

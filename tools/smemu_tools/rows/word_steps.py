@@ -1,9 +1,12 @@
-"""Writes data/word-steps-VL-SVL.vectors with their answers: each word of data/words.tsv, vector_words.tsv and texts.tsv, which other tools gave, in a state that it does something with.
+"""Writes data/word-steps-VL-SVL.vectors with their answers: each word of data/words.tsv,
+vector_words.tsv and texts.tsv, which other tools gave, in a state that it does something with.
 
     tools/smemu-tools word-steps
 
-The words of a name take the five vector lengths in turn, so that each name comes at each of them. The state has the registers that the word's text names, at the ends of their
-ranges and between, and data where the instruction accesses memory, mostly where it succeeds. What each gives is what tools/smemu_tools/model/expected_answers.py gives.
+The words of a name take the five vector lengths in turn, so that each name comes at each of them.
+The state has the registers that the word's text names, at the ends of their ranges and between, and
+data where the instruction accesses memory, mostly where it succeeds. What each gives is what
+tools/smemu_tools/model/expected_answers.py gives.
 """
 from __future__ import annotations
 
@@ -20,7 +23,8 @@ from smemu_tools.model.expected_answers import PAGE, answer, place_of
 
 # VL and SVL; each length comes once as either
 PAIRS = ((128, 256), (256, 512), (512, 1024), (1024, 2048), (2048, 128))
-ENDS = [0, 1, 2, 31, 63, 64, 0x7F, 0x80, 0x7FFFFFFF, 0x80000000, 0xFFFFFFFF, 0x100000000, (1 << 63) - 1, 1 << 63, (1 << 64) - 2, (1 << 64) - 1]
+ENDS = [0, 1, 2, 31, 63, 64, 0x7F, 0x80, 0x7FFFFFFF, 0x80000000, 0xFFFFFFFF, 0x100000000,
+        (1 << 63) - 1, 1 << 63, (1 << 64) - 2, (1 << 64) - 1]
 START, SHARED = 0x10000, 0x7F0000000000
 # accesses of vectors, and what ZA takes part in, come in two states
 MORE = re.compile(r"z[0-9]+.*\[|\bza")
@@ -28,8 +32,10 @@ SIZES = {"b": 1, "h": 2, "s": 4, "d": 8, "q": 16}
 
 
 # words of forms that the tables lack, put together by hand
-OTHERS = {0x042D9041: "asr z1.b, z2.b, #3", 0x04289483: "lsr z3.b, z4.b, #8", 0x043F9CC5: "lsl z5.h, z6.h, #15", 0xE5444467: "st1w {z7.s}, p1, [x3, x4, lsl #2]",
-          0xC0C1A865: "mova za5v.q[w13, 0], p2/m, z3.q", 0xC0824D24: "mova z4.s, p3/m, za2h.s[w14, 1]"}
+OTHERS = {0x042D9041: "asr z1.b, z2.b, #3", 0x04289483: "lsr z3.b, z4.b, #8",
+          0x043F9CC5: "lsl z5.h, z6.h, #15", 0xE5444467: "st1w {z7.s}, p1, [x3, x4, lsl #2]",
+          0xC0C1A865: "mova za5v.q[w13, 0], p2/m, z3.q",
+          0xC0824D24: "mova z4.s, p3/m, za2h.s[w14, 1]"}
 
 
 def words() -> dict[int, str]:
@@ -43,20 +49,29 @@ def words() -> dict[int, str]:
 
 
 def number(chance: random.Random) -> int:
-    return chance.choice(ENDS) if chance.random() < 0.4 else chance.getrandbits(chance.choice((8, 16, 32, 64, 64, 64)))
+    return chance.choice(ENDS) if chance.random() < 0.4 else chance.getrandbits(chance.choice((8,
+                                                                                               16,
+                                                                                               32,
+                                                                                               64,
+                                                                                               64,
+                                                                                               64)))
 
 
 def elements(chance: random.Random, length: int, size: int) -> bytes:
     """Bytes of elements, of which some are at an end of their range."""
-    ends = [value % (1 << 8 * size) for value in (0, 1, 2, -1, -2, 1 << 8 * size - 1, (1 << 8 * size - 1) - 1)]
-    values = [chance.choice(ends) if chance.random() < 0.3 else chance.getrandbits(8 * size) for _ in range(length // size)]
+    ends = [value % (1 << 8 * size)
+            for value in (0, 1, 2, -1, -2, 1 << 8 * size - 1, (1 << 8 * size - 1) - 1)]
+    values = [chance.choice(ends) if chance.random() < 0.3 else chance.getrandbits(8 * size)
+              for _ in range(length // size)]
     return b"".join(value.to_bytes(size, "little") for value in values)
 
 
 def predicate(chance: random.Random, length: int) -> bytes:
     """All elements, none, one, or some."""
     count = length // 8
-    return chance.choice((b"\xff" * count, bytes(count), (1 << chance.randrange(length)).to_bytes(count, "little"), random_bytes(chance, count), random_bytes(chance, count),
+    return chance.choice((b"\xff" * count, bytes(count),
+                          (1 << chance.randrange(length)).to_bytes(count, "little"),
+                          random_bytes(chance, count), random_bytes(chance, count),
                           random_bytes(chance, count)))
 
 
@@ -71,16 +86,20 @@ def modes(chance: random.Random, text: str) -> int:
     return chance.choice((0, 0, 0, 1, 2, 3))
 
 
-def registers(chance: random.Random, text: str, length: int, streaming_length: int, svcr: int) -> dict[str, str]:
+def registers(chance: random.Random, text: str, length: int, streaming_length: int,
+              svcr: int) -> dict[str, str]:
     """The fields of the registers that a text names, and now and then of others."""
     state = {}
     for n in re.findall(r"\b[xw]([0-9]+)", text):
         state[f"x{n}"] = f"{number(chance):016x}"
     for n, suffix in re.findall(r"\bz([0-9]+)(?:\.([bhsdq]))?", text):
         state[f"z{n}"] = elements(chance, length, min(SIZES.get(suffix, 1), 8)).hex()
-    for n in re.findall(r"\b[bhsd]([0-9]+)", text) + [str(chance.randrange(32))] * (length <= 64 and chance.random() < 0.2):
+    for n in re.findall(r"\b[bhsd]([0-9]+)",
+                        text) + [str(chance.randrange(32))] * (length <= 64
+                                                               and chance.random() < 0.2):
         state[f"z{n}"] = random_bytes(chance, length).hex()
-    for n in re.findall(r"\bp([0-9]+)", text) + [str(chance.randrange(16))] * (chance.random() < 0.1):
+    for n in re.findall(r"\bp([0-9]+)",
+                        text) + [str(chance.randrange(16))] * (chance.random() < 0.1):
         state[f"p{n}"] = predicate(chance, length).hex()
     if "ffr" in text or chance.random() < 0.05:
         state["ffr"] = predicate(chance, length).hex()
@@ -121,7 +140,8 @@ def line_of(word: int, state: dict[str, str]) -> str:
 
 
 def moved(chance: Any, state: Any, base: Any, given: Any, size: Any) -> Any:
-    """The base of an access moved, so that its first byte at fault is among the data, or now and then in the shared region; None where it stays."""
+    """The base of an access moved, so that its first byte at fault is among the data, or now and
+    then in the shared region; None where it stays."""
     fault = re.fullmatch("raise (?:data|shared|align) ([0-9a-f]{16})( .*)?", given)
     if not fault or chance.random() < 0.1:
         return None
@@ -129,7 +149,9 @@ def moved(chance: Any, state: Any, base: Any, given: Any, size: Any) -> Any:
     if given.startswith("raise align"):
         distance = -(at % 16)
     else:
-        distance = (SHARED if chance.random() < 0.15 else START + chance.randrange(size)) + chance.choice((0, 0, 0, 0, 0, PAGE - 8)) - at
+        distance = (SHARED if chance.random() < 0.15
+                    else START
+                    + chance.randrange(size)) + chance.choice((0, 0, 0, 0, 0, PAGE - 8)) - at
         distance &= -16 if chance.random() < 0.8 else -1
     return {**state, base: f"{int(state.get(base, '0'), 16) + distance & (1 << 64) - 1:016x}"}
 
@@ -152,7 +174,8 @@ def step(chance: Any, word: Any, text: Any, vl: Any, svl: Any) -> Any:
 def steps() -> Iterator[Any]:
     chance, names = random.Random(20), {}
     for word, text in words().items():
-        names.setdefault(text.split(" ")[0], []).extend([(word, text)] * (2 if MORE.search(text) else 1))
+        names.setdefault(text.split(" ")[0],
+                         []).extend([(word, text)] * (2 if MORE.search(text) else 1))
     for known in names.values():
         several = itertools.islice(itertools.cycle(known), max(len(known), len(PAIRS)))
         for (word, text), (vl, svl) in zip(several, itertools.cycle(PAIRS)):

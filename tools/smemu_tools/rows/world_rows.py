@@ -1,5 +1,6 @@
-"""Rows of several threads: `run` with --threads, `sim` with plans, and `replay` of reports of several threads, of both versions. What is to be
-written comes from world.py, and of a replay from tools/smemu_tools/model/expected_replay.py.
+"""Rows of several threads: `run` with --threads, `sim` with plans, and `replay` of reports of
+several threads, of both versions. What is to be written comes from world.py, and of a replay from
+tools/smemu_tools/model/expected_replay.py.
 """
 from __future__ import annotations
 
@@ -11,9 +12,11 @@ from smemu_tools.model.expected_replay import replay
 from smemu_tools.model.world import World, run, sim
 from smemu_tools.rows import HERE
 from smemu_tools.rows.sources import linked
-from smemu_tools.rows.world_programs import BANKS, ENDS, FOREVER, HANDLES, LOCK, NESTS, NUMBERS, POSTS, PRODUCTS, TURNS, YIELDS, adds
+from smemu_tools.rows.world_programs import (BANKS, ENDS, FOREVER, HANDLES, LOCK, NESTS, NUMBERS,
+                                             POSTS, PRODUCTS, TURNS, YIELDS, adds)
 
-ANSWER, EXAMPLE = (assembled(*linked(HERE / "real" / "linked" / f"{name}.elf")) for name in ("answer", "threads"))
+ANSWER, EXAMPLE = (assembled(*linked(HERE / "real" / "linked" / f"{name}.elf"))
+                   for name in ("answer", "threads"))
 EXAMPLE_PLAN = (TOP / "examples" / "threads.plan").read_text()
 # of each program the options of its run
 PROGRAMS = {
@@ -33,21 +36,29 @@ PROGRAMS = {
 }
 # other options, with which a program runs besides
 OTHER_RUNS = {
-    "threads-tell-their-numbers": [{"threads": threads, "slice": threads % 4 + 1} for threads in (2, 8, 9)],
+    "threads-tell-their-numbers": [{"threads": threads, "slice": threads % 4 + 1}
+                                   for threads in (2, 8, 9)],
     "threads-yield": [{"threads": 8}, {"threads": 12, "slice": 4}],
-    "threads-get-a-signal": [{"threads": 3}, {"threads": 9, "slice": 5}, {"threads": 32, "slice": 50}],
-    "threads-add-products": [{"threads": 2, "svl": 2048, "slice": 9}, {"threads": 9, "svl": 128, "vl": 512, "slice": 6}],
+    "threads-get-a-signal": [{"threads": 3}, {"threads": 9, "slice": 5},
+                             {"threads": 32, "slice": 50}],
+    "threads-add-products": [{"threads": 2, "svl": 2048, "slice": 9},
+                             {"threads": 9, "svl": 128, "vl": 512, "slice": 6}],
     "threads-handle-signals": [{"threads": 2, "svl": 128, "vl": 2048, "slice": 5}],
-    "threads-nest": [{"threads": 2, "svl": 2048, "slice": 16}, {"threads": 9, "svl": 128, "vl": 512, "slice": 7}],
+    "threads-nest": [{"threads": 2, "svl": 2048, "slice": 16},
+                     {"threads": 9, "svl": 128, "vl": 512, "slice": 7}],
 }
 
-# threads that ask nothing whose answer another one can change, with options: their report is the same on any number of cores
+# threads that ask nothing whose answer another one can change, with options: their report is the
+# same on any number of cores
 APART = {
-    "threads-handle-signals": [{"threads": 3, "slice": 12, "cores": 3}, {"threads": 9, "slice": 5, "svl": 2048, "cores": 4},
+    "threads-handle-signals": [{"threads": 3, "slice": 12, "cores": 3},
+                               {"threads": 9, "slice": 5, "svl": 2048, "cores": 4},
                                {"threads": 32, "slice": 50, "svl": 128, "vl": 512, "cores": 2}],
     "threads-use-banks": [{"threads": 8, "slice": 9, "svl": 2048, "cores": 4}],
-    "threads-use-za-in-turn": [{"threads": 8, "svl": 2048, "cores": 4}, {"threads": 32, "slice": 7, "cores": 3}],
-    "threads-nest": [{"threads": 8, "slice": 16, "svl": 512, "cores": 4}, {"threads": 32, "slice": 9, "svl": 128, "cores": 3}],
+    "threads-use-za-in-turn": [{"threads": 8, "svl": 2048, "cores": 4},
+                               {"threads": 32, "slice": 7, "cores": 3}],
+    "threads-nest": [{"threads": 8, "slice": 16, "svl": 512, "cores": 4},
+                     {"threads": 32, "slice": 9, "svl": 128, "cores": 3}],
     "answer": [{"cores": 64}, {"threads": 32, "cores": 5}, {"threads": 2, "budget": 2, "cores": 2}],
 }
 
@@ -59,14 +70,17 @@ def runs() -> Iterator[Any]:
     for name, (file, options) in PROGRAMS.items():
         yield name, file, options, run(file, **options)
         for others in OTHER_RUNS.get(name, ()):
-            yield f"{name}-{'-'.join(f'{key}-{value}' for key, value in others.items())}", file, others, run(file, **others)
+            yield (f"{name}-{'-'.join(f'{key}-{value}' for key, value in others.items())}", file,
+                   others, run(file, **others))
     for name, options in APART.items():
         file = {"answer": ANSWER, **{program: of for program, (of, _) in PROGRAMS.items()}}[name]
         for others in options:
-            yield f"{name}-{'-'.join(f'{key}-{value}' for key, value in others.items())}", file, others, run(file, **others)
+            yield (f"{name}-{'-'.join(f'{key}-{value}' for key, value in others.items())}", file,
+                   others, run(file, **others))
 
 
-# a plan with each refusal, and with two facts at once, of which the first is told; its last line has no line feed
+# a plan with each refusal, and with two facts at once, of which the first is told; its last line
+# has no line feed
 REFUSALS = """
 run 0 5
 next 0
@@ -110,12 +124,15 @@ run 0 100
 fetch 1"""
 
 # thread 0 begins on core 0 and comes to core 1 behind thread 1
-MOVED_ADDS = "fetch 0\nrun 0 1500\noffer 0\nfetch 1\nfetch 1\nrun 1 700\nnext 1\nrun 1 900\nnext 1\nrun 1 4294967295\nrun 1 4294967295\n"
-# thread 0 is taken from core 0 within its handler, goes on on core 1 in the place of thread 1, and returns on core 0
+MOVED_ADDS = ("fetch 0\nrun 0 1500\noffer 0\nfetch 1\nfetch 1\nrun 1 700\nnext "
+              "1\nrun 1 900\nnext 1\nrun 1 4294967295\nrun 1 4294967295\n")
+# thread 0 is taken from core 0 within its handler, goes on on core 1 in the place of thread 1, and
+# returns on core 0
 INTO_HANDLER = "fetch 0\nrun 0 22\n"
 ON_IN_HANDLER = INTO_HANDLER + "offer 0\nfetch 1\nfetch 1\nrun 1 15\nnext 1\nrun 1 1\n"
 OUT_OF_HANDLER = ON_IN_HANDLER + "offer 1\nfetch 0\nrun 0 4294967295\nrun 1 4294967295\nrun 0 1\n"
-# both threads have ZA, each on a core of its own; then thread 0 comes to the core on which thread 1 has it, and they go on in turns
+# both threads have ZA, each on a core of its own; then thread 0 comes to the core on which thread 1
+# has it, and they go on in turns
 BOTH_LIVE = "fetch 0\nfetch 1\nrun 0 10\nrun 1 13\n"
 BESIDE_LIVE = BOTH_LIVE + "offer 0\nfetch 1\nnext 1\nrun 1 3\nnext 1\nrun 1 4\nnext 1\n"
 # then thread 1, whose ZA was put by, goes to core 0
@@ -142,7 +159,8 @@ def some_events(seed: Any, count: Any, cores: Any) -> Any:
     for _ in range(count):
         seed = (25173 * seed + 13849) % 65536
         core, kind = seed // 64 % (cores + 1), seed // 4096
-        lines.append(f"run {core} {seed // 16 % 29 + 1}" if kind < 7 else f"{('fetch', 'next', 'offer')[kind % 3]} {core}")
+        lines.append(f"run {core} {seed // 16 % 29 + 1}" if kind < 7
+                     else f"{('fetch', 'next', 'offer')[kind % 3]} {core}")
     return "".join(line + "\n" for line in lines)
 
 
@@ -170,7 +188,8 @@ def exchanged(turns: Any, rounds: Any) -> Any:
 
 
 def nested_plans(**options: Any) -> Iterator[Any]:
-    """Plans in which a thread is moved within its third handler, with ZA on in it and in all those around it, to a core whose thread has ZA on too."""
+    """Plans in which a thread is moved within its third handler, with ZA on in it and in all those
+    around it, to a core whose thread has ZA on too."""
     third = turns_until(lambda it: it.depth == 3 and any(map(any, it.matrix.za)), **options)
     second = turns_until(lambda it: it.depth == 2 and any(map(any, it.matrix.za)), **options)
     begins = f"fetch 0\nfetch 1\nrun 0 {third}\nrun 1 {second}\n"
@@ -179,14 +198,17 @@ def nested_plans(**options: Any) -> Iterator[Any]:
     yield "is-moved-in-its-third-handler", moved
     yield "is-moved-back-in-its-second-handler", back
     yield "is-moved-and-goes-on-to-the-end", back + "run 0 200\nrun 1 200\n"
-    yield "is-offered-before-its-third-delivery", f"fetch 0\nrun 0 {third - 6}\noffer 0\nfetch 1\nfetch 1\nnext 1\nrun 1 20\n"
+    yield ("is-offered-before-its-third-delivery",
+           f"fetch 0\nrun 0 {third - 6}\noffer 0\nfetch 1\nfetch 1\nnext 1\nrun 1 20\n")
     for turns in (1, 2, 5, 7):
         yield f"changes-cores-each-{turns}-turns", exchanged(turns, 104 // turns + 4)
 
 
 def plans() -> Iterator[Any]:
     """The name of each plan, its program, the options and the plan."""
-    for name, plan in (("of-the-example", EXAMPLE_PLAN), ("of-a-part-of-the-example", EXAMPLE_PLAN[:EXAMPLE_PLAN.index("next 1\nrun 1 2")])):
+    for name, plan in (("of-the-example", EXAMPLE_PLAN),
+                       ("of-a-part-of-the-example",
+                        EXAMPLE_PLAN[:EXAMPLE_PLAN.index("next 1\nrun 1 2")])):
         yield name, "threads", {"threads": 2, "cores": 2, "svl": 128}, plan
     yield "runs-the-answer", "answer", {}, "offer 0\nfetch 0\nrun 0 5\n"
     yield "runs-as-far-as-can-be", "answer", {}, "fetch 0\nrun 0 4294967295\n"
@@ -198,47 +220,86 @@ def plans() -> Iterator[Any]:
     yield "fetches-alone", "threads-add-a-little", {"threads": 2, "cores": 2}, "fetch 1\nfetch 0\n"
     yield "moves-between-cores", "threads-add", {"threads": 2, "cores": 2}, MOVED_ADDS
     yield "has-every-refusal", "threads-tell-their-numbers", {"threads": 9, "cores": 2}, REFUSALS
-    yield "fetches-nine-of-eight", "threads-tell-their-numbers", {"threads": 8}, "fetch 0\n" * 9 + "run 0 20\nfetch 0\n"
-    yield "fetches-nine-of-32", "threads-tell-their-numbers", {"threads": 32, "slice": 6}, "fetch 0\n" * 9 + "next 0\nrun 0 7\noffer 0\nfetch 0\n"
-    for name, plan in (("into", INTO_HANDLER), ("on-in", ON_IN_HANDLER), ("out-of", OUT_OF_HANDLER)):
-        yield f"moves-{name}-a-handler", "threads-handle-signals", {"threads": 2, "cores": 2, "slice": 16}, plan
+    yield ("fetches-nine-of-eight", "threads-tell-their-numbers", {"threads": 8},
+           "fetch 0\n" * 9 + "run 0 20\nfetch 0\n")
+    yield ("fetches-nine-of-32", "threads-tell-their-numbers", {"threads": 32, "slice": 6},
+           "fetch 0\n" * 9 + "next 0\nrun 0 7\noffer 0\nfetch 0\n")
+    for name, plan in (("into", INTO_HANDLER), ("on-in", ON_IN_HANDLER),
+                       ("out-of", OUT_OF_HANDLER)):
+        yield f"moves-{name}-a-handler", "threads-handle-signals", {"threads": 2, "cores": 2,
+                                                                    "slice": 16}, plan
     for svl in (128, 512):
         for name, plan in nested_plans(**NESTED, svl=svl):
-            yield f"nested-{name}-at-{svl}", "threads-nest", {**NESTED, "cores": 2, "svl": svl}, plan
-    yield "of-many-events-with-nested-handlers", "threads-nest", {"threads": 6, "cores": 3, "slice": 13, "svl": 128}, some_events(77, 260, 3)
-    yield "moves-out-of-a-handler-at-2048", "threads-handle-signals", {"threads": 2, "cores": 2, "slice": 16, "svl": 2048}, OUT_OF_HANDLER
-    yield "moves-in-streaming-mode", "threads-add-products", {"cores": 2, "svl": 2048}, IN_STREAMING_MODE
-    yield "moves-in-streaming-mode-to-the-end", "threads-add-products", {"cores": 2, "svl": 2048}, IN_STREAMING_MODE + "run 0 100\n"
-    yield "moves-beside-live-za", "threads-add-products", {"threads": 2, "cores": 2, "svl": 2048}, BESIDE_LIVE
-    yield "moves-beside-live-za-to-the-end", "threads-add-products", {"threads": 2, "cores": 2}, BESIDE_LIVE + "run 1 100\n" * 2
+            yield f"nested-{name}-at-{svl}", "threads-nest", {**NESTED, "cores": 2,
+                                                              "svl": svl}, plan
+    yield "of-many-events-with-nested-handlers", "threads-nest", {"threads": 6, "cores": 3,
+                                                                  "slice": 13,
+                                                                  "svl": 128}, some_events(77, 260,
+                                                                                           3)
+    yield "moves-out-of-a-handler-at-2048", "threads-handle-signals", {"threads": 2, "cores": 2,
+                                                                       "slice": 16,
+                                                                       "svl": 2048}, OUT_OF_HANDLER
+    yield "moves-in-streaming-mode", "threads-add-products", {"cores": 2,
+                                                              "svl": 2048}, IN_STREAMING_MODE
+    yield ("moves-in-streaming-mode-to-the-end", "threads-add-products", {"cores": 2, "svl": 2048},
+           IN_STREAMING_MODE + "run 0 100\n")
+    yield "moves-beside-live-za", "threads-add-products", {"threads": 2, "cores": 2,
+                                                           "svl": 2048}, BESIDE_LIVE
+    yield ("moves-beside-live-za-to-the-end", "threads-add-products", {"threads": 2, "cores": 2},
+           BESIDE_LIVE + "run 1 100\n" * 2)
     yield "parts-after-live-za", "threads-add-products", {"threads": 2, "cores": 2}, APART_AGAIN
-    yield "parts-after-live-za-to-the-end", "threads-add-products", {"threads": 2, "cores": 2, "svl": 128}, APART_AGAIN + TO_THE_END
-    for name, plan in (("scalar-turns", SCALAR_BESIDE), ("a-delivery", DELIVERED_BESIDE), ("a-return", RETURNED_BESIDE),
-                       ("streaming-mode", STREAMING_BESIDE)):
+    yield ("parts-after-live-za-to-the-end", "threads-add-products",
+           {"threads": 2, "cores": 2, "svl": 128}, APART_AGAIN + TO_THE_END)
+    for name, plan in (("scalar-turns", SCALAR_BESIDE), ("a-delivery", DELIVERED_BESIDE),
+                       ("a-return", RETURNED_BESIDE), ("streaming-mode", STREAMING_BESIDE)):
         yield f"has-{name}-beside-za", "threads-use-banks", {"threads": 4, "slice": 16}, plan
-    yield "has-a-return-beside-za-at-2048", "threads-use-banks", {"threads": 4, "slice": 16, "svl": 2048}, RETURNED_BESIDE + "run 0 100\n" * 4
-    yield "offers-za-that-others-stood-before", "threads-use-banks", {"threads": 4, "slice": 16, "svl": 2048}, OFFERED_AFTER
-    yield "ends-za-that-others-stood-before", "threads-use-banks", {"threads": 4, "slice": 16}, STOPPED_AFTER
-    yield "uses-za-in-turn", "threads-use-za-in-turn", {"threads": 8, "svl": 2048}, "fetch 0\n" * 8 + "run 0 7\nnext 0\n" * 20
-    yield "of-many-events-on-one-core", "threads-use-banks", {"threads": 8, "slice": 7}, some_events(5, 200, 1)
-    yield "of-many-events-on-three-cores", "threads-use-banks", {"threads": 11, "cores": 3, "slice": 5}, some_events(11, 250, 3)
-    yield "ends-runs-at-a-yield", "threads-yield", {"threads": 2}, "fetch 0\nfetch 0\nrun 0 100\nrun 0 100\nnext 0\nrun 0 100\n"
-    yield "ends-a-run-with-its-yield", "threads-yield", {"threads": 2}, "fetch 0\nrun 0 12\nrun 0 1\nnext 0\n"
-    yield "ends-runs-at-yields-and-a-stop", "threads-yield", {"threads": 2}, "fetch 0\nfetch 0\n" + "run 0 100\n" * 5 + "next 0\nrun 0 6\n"
-    yield "runs-after-the-last-stop", "threads-yield", {"threads": 2, "cores": 2}, "fetch 1\n" + "run 1 100\n" * 6 + "fetch 1\noffer 1\nfetch 0\n"
-    yield "comes-to-the-budget", "threads-add-a-little", {"threads": 2, "budget": 3}, "fetch 0\nrun 0 3\nnext 0\nrun 0 1\nrun 0 1\n"
-    yield "stands-at-the-budget", "threads-add-a-little", {"threads": 2, "budget": 3}, "fetch 0\nrun 0 3\noffer 0\n"
-    yield "stands-between-a-poll-and-a-delivery", "threads-handle-signals", {"slice": 12}, "fetch 0\nrun 0 13\n"
-    yield "stands-between-a-poll-and-an-instruction", "threads-add-a-little", {"slice": 4}, "fetch 0\nrun 0 5\noffer 0\nfetch 0\n"
-    yield "takes-turns-on-three-cores", "threads-add-a-little", {"threads": 3, "cores": 3}, in_turns(3, 1, 25)
-    yield "takes-a-lock-on-four-cores", "threads-take-a-lock", {"threads": 4, "cores": 4, "slice": 11}, in_turns(4, 3, 50)
+    yield ("has-a-return-beside-za-at-2048", "threads-use-banks",
+           {"threads": 4, "slice": 16, "svl": 2048}, RETURNED_BESIDE + "run 0 100\n" * 4)
+    yield "offers-za-that-others-stood-before", "threads-use-banks", {"threads": 4, "slice": 16,
+                                                                      "svl": 2048}, OFFERED_AFTER
+    yield "ends-za-that-others-stood-before", "threads-use-banks", {"threads": 4,
+                                                                    "slice": 16}, STOPPED_AFTER
+    yield ("uses-za-in-turn", "threads-use-za-in-turn", {"threads": 8, "svl": 2048},
+           "fetch 0\n" * 8 + "run 0 7\nnext 0\n" * 20)
+    yield "of-many-events-on-one-core", "threads-use-banks", {"threads": 8,
+                                                              "slice": 7}, some_events(5, 200, 1)
+    yield "of-many-events-on-three-cores", "threads-use-banks", {"threads": 11, "cores": 3,
+                                                                 "slice": 5}, some_events(11, 250,
+                                                                                          3)
+    yield ("ends-runs-at-a-yield", "threads-yield", {"threads": 2},
+           "fetch 0\nfetch 0\nrun 0 100\nrun 0 100\nnext 0\nrun 0 100\n")
+    yield ("ends-a-run-with-its-yield", "threads-yield", {"threads": 2},
+           "fetch 0\nrun 0 12\nrun 0 1\nnext 0\n")
+    yield ("ends-runs-at-yields-and-a-stop", "threads-yield", {"threads": 2},
+           "fetch 0\nfetch 0\n" + "run 0 100\n" * 5 + "next 0\nrun 0 6\n")
+    yield ("runs-after-the-last-stop", "threads-yield", {"threads": 2, "cores": 2},
+           "fetch 1\n" + "run 1 100\n" * 6 + "fetch 1\noffer 1\nfetch 0\n")
+    yield ("comes-to-the-budget", "threads-add-a-little", {"threads": 2, "budget": 3},
+           "fetch 0\nrun 0 3\nnext 0\nrun 0 1\nrun 0 1\n")
+    yield ("stands-at-the-budget", "threads-add-a-little", {"threads": 2, "budget": 3},
+           "fetch 0\nrun 0 3\noffer 0\n")
+    yield ("stands-between-a-poll-and-a-delivery", "threads-handle-signals", {"slice": 12},
+           "fetch 0\nrun 0 13\n")
+    yield ("stands-between-a-poll-and-an-instruction", "threads-add-a-little", {"slice": 4},
+           "fetch 0\nrun 0 5\noffer 0\nfetch 0\n")
+    yield "takes-turns-on-three-cores", "threads-add-a-little", {"threads": 3,
+                                                                 "cores": 3}, in_turns(3, 1, 25)
+    yield "takes-a-lock-on-four-cores", "threads-take-a-lock", {"threads": 4, "cores": 4,
+                                                                "slice": 11}, in_turns(4, 3, 50)
     yield "posts-to-one-in-the-queue-and-one-done", "threads-get-a-signal", {"threads": 4, "slice": 6}, "fetch 0\n" * 3 + "next 0\n" * 2 + (
         "run 0 100\nrun 0 40\nnext 0\nrun 0 30\nfetch 0\nnext 0\nrun 0 20\n")
-    yield "posts-over-four-cores", "threads-get-a-signal", {"threads": 4, "cores": 4, "slice": 9}, in_turns(4, 5, 25)
-    yield "loads-while-others-add", "thread-loads-for-ever", {"threads": 3, "cores": 3, "slice": 9}, in_turns(3, 2, 8)
-    yield "of-many-events", "threads-yield", {"threads": 5, "cores": 3, "slice": 8}, some_events(7, 160, 3)
-    yield "of-many-events-with-za", "threads-handle-signals", {"threads": 5, "cores": 3, "slice": 11, "svl": 128}, some_events(21, 150, 3)
-    yield "of-many-events-with-signals", "threads-get-a-signal", {"threads": 11, "cores": 2, "slice": 5}, some_events(1, 300, 2)
+    yield "posts-over-four-cores", "threads-get-a-signal", {"threads": 4, "cores": 4,
+                                                            "slice": 9}, in_turns(4, 5, 25)
+    yield "loads-while-others-add", "thread-loads-for-ever", {"threads": 3, "cores": 3,
+                                                              "slice": 9}, in_turns(3, 2, 8)
+    yield "of-many-events", "threads-yield", {"threads": 5, "cores": 3, "slice": 8}, some_events(
+        7, 160, 3)
+    yield "of-many-events-with-za", "threads-handle-signals", {"threads": 5, "cores": 3,
+                                                               "slice": 11,
+                                                               "svl": 128}, some_events(21, 150, 3)
+    yield "of-many-events-with-signals", "threads-get-a-signal", {"threads": 11, "cores": 2,
+                                                                  "slice": 5}, some_events(1, 300,
+                                                                                           2)
 
 
 GOOD = "fetch 0\nrun 0 3\n"
@@ -308,7 +369,8 @@ FAULTS: dict[str, Any] = {
 
 
 def faults() -> Iterator[Any]:
-    """The name of each plan that is refused, the plan, and the line and the kind of its fault, which are written out here."""
+    """The name of each plan that is refused, the plan, and the line and the kind of its fault,
+    which are written out here."""
     for name, (plan, line, kind) in FAULTS.items():
         plan = plan if isinstance(plan, bytes) else plan.encode()
         text = f"bad plan: line {line}: {kind}\n"
@@ -328,39 +390,55 @@ def rewritten(row: Any, version: Any, files: Any) -> Any:
     options = {name: value for name, value in words.items() if value}
     if command == "sim":
         return sim(files[others[0]], file, kernel=version, **options)[1]
-    return (run if "threads" in options or "cores" in options else report_of_one)(file, kernel=version, **options)
+    return (run if "threads" in options or "cores" in options else report_of_one)(file,
+                                                                                  kernel=version,
+                                                                                  **options)
 
 
 def nested_replays(written: Any) -> Iterator[Any]:
-    """The threads of programs with handlers within handlers, on one core, on four, and moved between cores."""
-    for name, count in (("threads-nest.elf", 3), ("threads-nest-threads-8-slice-16-svl-512-cores-4.elf", 8), ("plan-nested-is-moved-and-goes-on-to-the-end-at-128.plan", 2),
+    """The threads of programs with handlers within handlers, on one core, on four, and moved
+    between cores."""
+    for name, count in (("threads-nest.elf", 3),
+                        ("threads-nest-threads-8-slice-16-svl-512-cores-4.elf", 8),
+                        ("plan-nested-is-moved-and-goes-on-to-the-end-at-128.plan", 2),
                         ("plan-nested-changes-cores-each-1-turns-at-512.plan", 2)):
         report = of_report(written[name])
         for number in range(count):
-            yield f"{name.split('.')[0].replace('plan-', '', 1)}-{number}", "threads-nest", report, number, *replay(NESTS, report, number)
+            yield (f"{name.split('.')[0].replace('plan-', '', 1)}-{number}", "threads-nest", report,
+                   number, *replay(NESTS, report, number))
 
 
 # the rows whose reports are replayed in version 1 too
-OLD = ("threads-get-a-signal.elf", "threads-add.elf", "plan-moves-between-cores.plan", "plan-moves-out-of-a-handler.plan", "plan-runs-the-answer.plan",
-       "plan-runs-part-of-the-answer.plan", "plan-ends-runs-at-yields-and-a-stop.plan", "threads-use-za-in-turn-threads-8-svl-2048-cores-4.elf")
+OLD = ("threads-get-a-signal.elf", "threads-add.elf", "plan-moves-between-cores.plan",
+       "plan-moves-out-of-a-handler.plan", "plan-runs-the-answer.plan",
+       "plan-runs-part-of-the-answer.plan", "plan-ends-runs-at-yields-and-a-stop.plan",
+       "threads-use-za-in-turn-threads-8-svl-2048-cores-4.elf")
 
 
 def replays(written: Any) -> Iterator[Any]:
-    """Reports of several threads: the name of the report, the program, the report, the thread, the status and what is written. `written` has
-    of each row what it writes."""
-    for program, name, count in (("threads-get-a-signal", "threads-get-a-signal.elf", 4), ("threads-add", "plan-moves-between-cores.plan", 2),
+    """Reports of several threads: the name of the report, the program, the report, the thread, the
+    status and what is written. `written` has of each row what it writes."""
+    for program, name, count in (("threads-get-a-signal", "threads-get-a-signal.elf", 4),
+                                 ("threads-add", "plan-moves-between-cores.plan", 2),
                                  ("threads-handle-signals", "plan-moves-out-of-a-handler.plan", 2),
-                                 ("threads-use-za-in-turn", "threads-use-za-in-turn-threads-8-svl-2048-cores-4.elf", 8)):
+                                 ("threads-use-za-in-turn",
+                                  "threads-use-za-in-turn-threads-8-svl-2048-cores-4.elf", 8)):
         report = of_report(written[name])
         for number in range(count):
-            yield f"{program}-{number}-of-{count}", program, report, number, *replay(PROGRAMS[program][0], report, number)
-    # thread 1 of two that add: the answer of its last addition, which X2 shows, is another, or that event is gone
+            yield f"{program}-{number}-of-{count}", program, report, number, *replay(
+                PROGRAMS[program][0], report, number)
+    # thread 1 of two that add: the answer of its last addition, which X2 shows, is another, or that
+    # event is gone
     report = written["threads-add.elf"]
-    start, last = report.index("\nthread 1\n"), report[:report.rindex("\nend-thread\n")].rsplit("\n", 1)[1]
-    for how, there, altered in (("with-another-last-answer", last, last[:-16] + "00000000000007d0"), ("without-its-last-event", last + "\n", "")):
+    start, last = report.index("\nthread 1\n"), report[:report.rindex("\nend-thread\n")].rsplit(
+        "\n", 1)[1]
+    for how, there, altered in (("with-another-last-answer", last, last[:-16] + "00000000000007d0"),
+                                ("without-its-last-event", last + "\n", "")):
         changed = report[start:].replace(there, altered)
-        other = report[:start] + (changed if altered else changed.replace("journal 1003\n", "journal 1002\n"))
-        yield f"threads-add-1-{how}", "threads-add", other, 1, *replay(PROGRAMS["threads-add"][0], other, 1)
+        other = report[:start] + (changed if altered
+                                  else changed.replace("journal 1003\n", "journal 1002\n"))
+        yield f"threads-add-1-{how}", "threads-add", other, 1, *replay(PROGRAMS["threads-add"][0],
+                                                                       other, 1)
     text = written["plan-runs-the-answer.plan"]
     line = lambda report, start: report[:report.index(start)].count("\n") + 1
     stopped, going = of_report(text), of_report(written["plan-runs-part-of-the-answer.plan"])
@@ -368,29 +446,39 @@ def replays(written: Any) -> Iterator[Any]:
     refused = {
         "answer-that-goes-on": (going, f"{line(going, 'stop none')}: block"),
         "answer-with-a-skipped-line": (text, "1: header"),
-        "answer-with-a-history": (text.replace("skip 1 noresident\n", "", 1), f"{stopped.count(chr(10)) + 1}: end"),
+        "answer-with-a-history": (text.replace("skip 1 noresident\n", "", 1),
+                                  f"{stopped.count(chr(10)) + 1}: end"),
     }
     for name, (report, fault) in refused.items():
         yield name, "answer", report, 0, 9, f"bad report: line {fault}\n"
     # thread 0 has stopped, and thread 1 goes on
     report = of_report(written["plan-ends-runs-at-yields-and-a-stop.plan"])
-    yield "thread-0-where-1-goes-on", "threads-yield", report, 0, 9, f"bad report: line {line(report, 'stop none')}: block\n"
+    yield ("thread-0-where-1-goes-on", "threads-yield", report, 0, 9,
+           f"bad report: line {line(report, 'stop none')}: block\n")
 
 
 def world_rows() -> Any:
-    """Rows as make_rows.py has them: the name, the status, the file, what is to be written, and the words of the command."""
-    rows = [(f"{name}.elf", 0, file, text, {"run": "", **options}) for name, file, options, text in runs()]
-    files = {"answer": ANSWER, "threads": EXAMPLE, **{name: file for name, (file, _) in PROGRAMS.items()}}
+    """Rows as make_rows.py has them: the name, the status, the file, what is to be written, and the
+    words of the command."""
+    rows = [(f"{name}.elf", 0, file, text, {"run": "", **options})
+            for name, file, options, text in runs()]
+    files = {"answer": ANSWER, "threads": EXAMPLE,
+             **{name: file for name, (file, _) in PROGRAMS.items()}}
     for name, program, options, plan in plans():
         status, text = sim(files[program], plan.encode(), **options)
-        rows.append((f"plan-{name}.plan", status, plan.encode(), text, {"sim": "", f"{program}.elf": "", **options}))
+        rows.append((f"plan-{name}.plan", status, plan.encode(), text,
+                     {"sim": "", f"{program}.elf": "", **options}))
     written = {name: text for name, _, _, text, _ in rows}
     files = {f"{program}.elf": file for program, file in files.items()}
     before = {row[0]: rewritten(row, 1, files) for row in rows if row[0] in OLD}
-    again = [*replays(before), *((f"version-2-{name}", *row) for name, *row in replays(written)), *nested_replays(written)]
-    rows += [(f"plan-at-fault-{name}.plan", 11, plan, text, {"sim": "", "answer.elf": ""}) for name, plan, text in faults()]
+    again = [*replays(before), *((f"version-2-{name}", *row) for name, *row in replays(written)),
+             *nested_replays(written)]
+    rows += [(f"plan-at-fault-{name}.plan", 11, plan, text, {"sim": "", "answer.elf": ""})
+             for name, plan, text in faults()]
     # the program is read, and refused, before the plan
-    rows.append(("plan-of-no-program.plan", 6, b"start\n", "bad file: truncated 0\n", {"sim": "", "refused-empty.elf": ""}))
-    rows += [(f"replay-{name}.report", status, report.encode(), text, {"replay": "", f"{program}.elf": "", str(number): ""})
+    rows.append(("plan-of-no-program.plan", 6, b"start\n", "bad file: truncated 0\n",
+                 {"sim": "", "refused-empty.elf": ""}))
+    rows += [(f"replay-{name}.report", status, report.encode(), text,
+              {"replay": "", f"{program}.elf": "", str(number): ""})
              for name, program, report, number, status, text in again]
     return rows

@@ -1,10 +1,13 @@
-"""Runs the commands of README.md and of the pages below, and compares what they print with what stands below them.
+"""Runs the commands of README.md and of the pages below, and compares what they print with what
+stands below them.
 
     tools/smemu-tools doc-tests [PROGRAM] [--page PAGE]
 
-PROGRAM is the emulator, as in crates/smemu_cli/out; where it is not given it is what ./smemu runs here. A command is a line `    $ ..`; up to the next one
-or the end of the block stands what a terminal shows. Those of a page run in its order in a folder of its own, with the wrapper, tools/, examples/, docs/ and release/.
-A command that needs a tool which is not installed is passed over, and so is one that reads a file which that one would have made.
+PROGRAM is the emulator, as in crates/smemu_cli/out; where it is not given it is what ./smemu runs
+here. A command is a line `    $ ..`; up to the next one or the end of the block stands what a
+terminal shows. Those of a page run in its order in a folder of its own, with the wrapper, tools/,
+examples/, docs/ and release/. A command that needs a tool which is not installed is passed over,
+and so is one that reads a file which that one would have made.
 """
 from __future__ import annotations
 
@@ -23,10 +26,17 @@ import threading
 
 from smemu_tools import TOP
 
-PAGES = ("README.md", *(f"docs/{name}.md" for name in ("TUTORIAL", "FROM_C", "WORLDS", "DEBUGGER", "REPORT", "KERNEL", "GDB", "OUTCOMES", "LOST_ZA", "PROFILE", "LAZY_SAVING", "COMMAND", "CHECKPOINT", "VECTORS", "CI", "FIND_IT", "INSTALL")))
+PAGES = ("README.md",
+         *(f"docs/{name}.md"
+           for name
+           in ("TUTORIAL", "FROM_C", "WORLDS", "DEBUGGER", "REPORT", "KERNEL", "GDB", "OUTCOMES",
+               "LOST_ZA", "PROFILE", "LAZY_SAVING", "COMMAND", "CHECKPOINT", "VECTORS", "CI",
+               "FIND_IT", "INSTALL")))
 # tools that a command may need, and of some the least version
-TOOLS = {"clang-19": 0, "ld.lld-19": 0, "aarch64-linux-gnu-gcc": 0, "aarch64-linux-gnu-ld": 0, "qemu-aarch64": 10, "llvm-symbolizer-19": 0,
-         "parallel": 0, "man": 0, "xz": 0, "gdb-multiarch": 0, "cmake": 0, "ctest": 0, "meson": 0, "/usr/lib/llvm-19/build/utils/lit/lit.py": 0}
+TOOLS = {"clang-19": 0, "ld.lld-19": 0, "aarch64-linux-gnu-gcc": 0, "aarch64-linux-gnu-ld": 0,
+         "qemu-aarch64": 10, "llvm-symbolizer-19": 0, "parallel": 0, "man": 0, "xz": 0,
+         "gdb-multiarch": 0, "cmake": 0, "ctest": 0, "meson": 0,
+         "/usr/lib/llvm-19/build/utils/lit/lit.py": 0}
 # of these, those that start Clang and lld by files that the command does not show
 BUILDERS = {"cmake", "ctest", "meson", "/usr/lib/llvm-19/build/utils/lit/lit.py"}
 SECONDS = 60
@@ -35,7 +45,8 @@ SECONDS = 60
 def is_there(tool: str) -> bool:
     if not shutil.which(tool):
         return False
-    version = re.search(r"version (\d+)", subprocess.run([tool, "--version"], capture_output=True, text=True).stdout)
+    version = re.search(r"version (\d+)",
+                        subprocess.run([tool, "--version"], capture_output=True, text=True).stdout)
     return not TOOLS[tool] or bool(version) and int(version[1]) >= TOOLS[tool]
 
 
@@ -59,9 +70,11 @@ def commands(page: str) -> list[tuple[int, str, list[str]]]:
 
 
 def shown(command: str, folder: pathlib.Path) -> list[str]:
-    """What a terminal shows of a command: its lines, without what is rewritten in place, as a time or how far it is."""
+    """What a terminal shows of a command: its lines, without what is rewritten in place, as a time
+    or how far it is."""
     main, side = pty.openpty()
-    shell = subprocess.Popen(["bash", "-c", command], cwd=folder, stdin=subprocess.DEVNULL, stdout=side, stderr=side, start_new_session=True)
+    shell = subprocess.Popen(["bash", "-c", command], cwd=folder, stdin=subprocess.DEVNULL,
+                             stdout=side, stderr=side, start_new_session=True)
     os.close(side)
     alarm = threading.Timer(SECONDS, os.killpg, (shell.pid, signal.SIGKILL))
     alarm.start()
@@ -75,7 +88,8 @@ def shown(command: str, folder: pathlib.Path) -> list[str]:
     os.close(main)
     shell.wait()
     alarm.cancel()
-    return re.sub(r"[^\n]*\r|\033\[K", "", said.decode(errors="replace").replace("\r\n", "\n")).splitlines()
+    return re.sub(r"[^\n]*\r|\033\[K", "",
+                  said.decode(errors="replace").replace("\r\n", "\n")).splitlines()
 
 
 def has_terminal() -> bool:
@@ -114,19 +128,23 @@ def try_page(page: str, program: pathlib.Path, there: dict[str, bool]) -> tuple[
             needed = words & set(TOOLS) | ({"clang-19", "ld.lld-19"} if words & BUILDERS else set())
             if words & lacking or any(not there[tool] for tool in needed):
                 passed += 1
-                lacking |= {word for word in words if "." in word and not (folder / word).exists()} - set(TOOLS)
+                lacking |= {word for word in words
+                            if "." in word and not (folder / word).exists()} - set(TOOLS)
                 continue
             said = shown(command, folder)
             ran += 1
             if said != wanted:
-                lines += [f"{page}:{number}: $ {command}", *(f"  written: {line}" for line in wanted), *(f"  printed: {line}" for line in said)]
+                lines += [f"{page}:{number}: $ {command}",
+                          *(f"  written: {line}" for line in wanted),
+                          *(f"  printed: {line}" for line in said)]
     return [*lines, f"{page}: {ran} commands ran, {passed} were passed over"], not lines
 
 
 def main() -> int:
-    words = argparse.ArgumentParser(description=__doc__.splitlines()[0])
+    words = argparse.ArgumentParser(description=__doc__.partition("\n\n")[0])
     words.add_argument("program", nargs="?", type=pathlib.Path, metavar="PROGRAM")
-    words.add_argument("--page", choices=PAGES, action="append", help="this page alone, and others that are named so")
+    words.add_argument("--page", choices=PAGES, action="append",
+                       help="this page alone, and others that are named so")
     asked = words.parse_args()
     program = asked.program
     if not program:

@@ -1,9 +1,11 @@
-"""Plants twelve faults, one at a time, in what clang makes of samples/calls/kernels.c, and stores the programs in samples/faults.tar.xz.
+"""Plants twelve faults, one at a time, in what clang makes of samples/calls/kernels.c, and stores
+the programs in samples/faults.tar.xz.
 
     tools/smemu-tools plant-faults [FOLDER]
 
-Each is an edit of the assembly, as a compiler may get it wrong: clang-19 and ld.lld-19 are needed, and another clang may write another text, of which an
-edit does not apply. With FOLDER the programs stay there too. tools/smemu-tools fault-tests says what is to be told of each.
+Each is an edit of the assembly, as a compiler may get it wrong: clang-19 and ld.lld-19 are needed,
+and another clang may write another text, of which an edit does not apply. With FOLDER the programs
+stay there too. tools/smemu-tools fault-tests says what is to be told of each.
 """
 from __future__ import annotations
 
@@ -23,15 +25,19 @@ CLANG = ["clang-19", "--target=aarch64-linux-gnu", "-ffreestanding", "-fno-pic",
 SME = ["-march=armv8.1-a+sme+sme-i16i64", "-mno-implicit-float"]
 SCALAR = ["-march=armv8.1-a", "-mgeneral-regs-only", "-fno-builtin"]
 # of each program what main is told; kernels has its own sum
-PROGRAMS: dict[str, list[str]] = {"nested": [], "recurse": [], "callback": [], "tails": [], "kinds": [], "loops": ["-DOFF"], "chains": [], "signals": ["-DSETUP"], "kernels": []}
+PROGRAMS: dict[str, list[str]] = {"nested": [], "recurse": [], "callback": [], "tails": [],
+                                  "kinds": [], "loops": ["-DOFF"], "chains": [],
+                                  "signals": ["-DSETUP"], "kernels": []}
 # each fault: the function, the text there, which occurrence of it, and what stands in its place
 EDITS: dict[str, Any] = {
     "pointer-not-set": ("deep", "\tmsr\tTPIDR2_EL0, x23\n", 3, ""),
     "callee-does-not-save": ("priv", "\tbl\t__arm_tpidr2_save\n", 1, ""),
     "caller-does-not-restore": ("deep", "\tbl\t__arm_tpidr2_restore\n", 3, "\tnop\n"),
-    "half-the-slices": ("deep", "\tsturh\tw22, [x29, #-8]\n", 1, "\tlsr w22, w22, #1\n\tsturh\tw22, [x29, #-8]\n"),
+    "half-the-slices": ("deep", "\tsturh\tw22, [x29, #-8]\n", 1,
+                        "\tlsr w22, w22, #1\n\tsturh\tw22, [x29, #-8]\n"),
     "za-not-turned-on": ("deep", "\tsmstart\tza\n", 3, ""),
-    "half-the-buffer": ("deep", "\tmsub\tx8, x8, x8, x9\n", 1, "\tlsr x10, x8, #1\n\tmsub\tx8, x10, x8, x9\n"),
+    "half-the-buffer": ("deep", "\tmsub\tx8, x8, x8, x9\n", 1,
+                        "\tlsr x10, x8, #1\n\tmsub\tx8, x10, x8, x9\n"),
     "callee-leaves-streaming-mode": ("priv", "\tret\n", 1, "\tsmstop sm\n\tret\n"),
     "callee-changes-x19": ("plain", "\tret\n", 1, "\tmov x19, #7\n\tret\n"),
     "callee-leaves-za-on": ("priv", "\tsmstop\tza\n", 1, ""),
@@ -56,10 +62,13 @@ def linked(name: Any, level: Any, text: Any, program: Any, work: Any) -> None:
     """Makes the program of this assembly."""
     (work / "edited.s").write_text(text)
     run(*CLANG, *SME, "-c", work / "edited.s", "-o", work / "edited.o")
-    run(*CLANG, f"-{level}", *SCALAR, *PROGRAMS[name], "-DWANT=0", "-c", CALLS / "main.c", "-o", work / "main.o")
-    run(*CLANG, "-Wa,--defsym,STACK=2097152", "-c", TOP / "examples/c/start.s", "-o", work / "start.o")
+    run(*CLANG, f"-{level}", *SCALAR, *PROGRAMS[name], "-DWANT=0", "-c", CALLS / "main.c", "-o",
+        work / "main.o")
+    run(*CLANG, "-Wa,--defsym,STACK=2097152", "-c", TOP / "examples/c/start.s", "-o",
+        work / "start.o")
     run(*CLANG, "-c", TOP / "examples/c/za.s", "-o", work / "za.o")
-    run("ld.lld-19", "-static", "-z", "max-page-size=4096", "-o", program, *(work / it for it in ("start.o", "main.o", "edited.o", "za.o")))
+    run("ld.lld-19", "-static", "-z", "max-page-size=4096", "-o", program,
+        *(work / it for it in ("start.o", "main.o", "edited.o", "za.o")))
 
 
 def planted(source: Any, function: Any, old: Any, which: Any, new: Any) -> Any:

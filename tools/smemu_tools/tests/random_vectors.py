@@ -1,11 +1,15 @@
-"""Makes files of vectors at random, and compares what the emulator answers with what an interpreter says that shares nothing with it.
+"""Makes files of vectors at random, and compares what the emulator answers with what an interpreter
+says that shares nothing with it.
 
     tools/smemu-tools random-vectors [PROGRAM] [--files N] [--seed S]
 
-PROGRAM is the emulator; where it is not given it is what ./smemu runs. There are N files of 1,000 vectors each, 100 where it is not said, each at two vector lengths and on one, two or
-four workers; the same seed makes the same files. A word is one of the tables of crates/smemu_rows/data, in more than half of the vectors with one bit changed or several, and its
-state is made as in tools/smemu_tools/rows/word_steps.py. The interpreter is tools/smemu_tools/model/expected_answers.py. Each vector whose answers differ is printed with both of them; the status is 1
-where one does.
+PROGRAM is the emulator; where it is not given it is what ./smemu runs. There are N files of 1,000
+vectors each, 100 where it is not said, each at two vector lengths and on one, two or four workers;
+the same seed makes the same files. A word is one of the tables of crates/smemu_rows/data, in more
+than half of the vectors with one bit changed or several, and its state is made as in
+tools/smemu_tools/rows/word_steps.py. The interpreter is
+tools/smemu_tools/model/expected_answers.py. Each vector whose answers differ is printed with both
+of them; the status is 1 where one does.
 """
 from __future__ import annotations
 
@@ -48,13 +52,15 @@ def compared(smemu: str, seed: str) -> Any:
     with tempfile.NamedTemporaryFile("w") as file:
         file.write("\n".join(lines))
         file.flush()
-        ended = subprocess.run([smemu, "vectors", file.name, "--vl", str(vl), "--svl", str(svl), "--cores", str(workers)], stdin=subprocess.DEVNULL,
+        ended = subprocess.run([smemu, "vectors", file.name, "--vl", str(vl), "--svl", str(svl),
+                                "--cores", str(workers)], stdin=subprocess.DEVNULL,
                                stdout=subprocess.PIPE, timeout=SECONDS, text=True)
     given = ended.stdout.splitlines()
     if ended.returncode or len(given) != LINES:
         return [f"seed {seed}: status {ended.returncode} and {len(given)} lines"]
     wanted = [answer(read_line(line, vl, svl), vl, svl) for line in lines]
-    return [f"--vl {vl} --svl {svl}: {line}\n  wanted: {right}\n  got:    {got}" for line, right, got in zip(lines, wanted, given) if right != got]
+    return [f"--vl {vl} --svl {svl}: {line}\n  wanted: {right}\n  got:    {got}"
+            for line, right, got in zip(lines, wanted, given) if right != got]
 
 
 def main() -> int:
@@ -65,7 +71,8 @@ def main() -> int:
     given = asked.parse_args()
     smemu = str(pathlib.Path(given.program or emulator.find()).resolve())
     with concurrent.futures.ProcessPoolExecutor(os.cpu_count()) as pool:
-        found = [*pool.map(compared, [smemu] * given.files, [f"{given.seed} {number}" for number in range(given.files)])]
+        found = [*pool.map(compared, [smemu] * given.files,
+                           [f"{given.seed} {number}" for number in range(given.files)])]
     differing = [line for lines in found for line in lines]
     print(*differing, f"{LINES * given.files} vectors, {len(differing)} differ", sep="\n")
     return 1 if differing else 0

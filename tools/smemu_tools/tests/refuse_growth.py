@@ -1,16 +1,19 @@
-"""Refuses the emulator each growth of its memory in turn, and looks at how each run ends: with status 8 or as without refusals.
+"""Refuses the emulator each growth of its memory in turn, and looks at how each run ends: with
+status 8 or as without refusals.
 
     tools/smemu-tools refuse-growth [--seconds N] [--sample N] [PROGRAM [NAME ..]]
 
-PROGRAM is the emulator, as ./smemu --which names it where it is not given. NAME is a command of CASES, below; all where none is given. A
-growth is a call of malloc or realloc that the program itself makes. Of each command the first is refused, then the second, and so on until
-a run makes no more of them; and so again, where each growth after the refused one is refused too. A run that is refused a growth writes
-nothing and ends with status 8, `debug` perhaps after answers of earlier commands; or it ends and writes as it does otherwise. One that
-takes more than N seconds, 60 if not given, hangs. `--sample` is for the gate: it tries N growths of each command, from the first to the last,
-and none where there is no compiler.
+PROGRAM is the emulator, as ./smemu --which names it where it is not given. NAME is a command of
+CASES, below; all where none is given. A growth is a call of malloc or realloc that the program
+itself makes. Of each command the first is refused, then the second, and so on until a run makes no
+more of them; and so again, where each growth after the refused one is refused too. A run that is
+refused a growth writes nothing and ends with status 8, `debug` perhaps after answers of earlier
+commands; or it ends and writes as it does otherwise. One that takes more than N seconds, 60 if not
+given, hangs. `--sample` is for the gate: it tries N growths of each command, from the first to the
+last, and none where there is no compiler.
 
-A library of some lines of C, which gcc or clang makes in a temporary folder, is preloaded to refuse. The last line says how many runs there
-were; the status is 1 where one of them was wrong.
+A library of some lines of C, which gcc or clang makes in a temporary folder, is preloaded to
+refuse. The last line says how many runs there were; the status is 1 where one of them was wrong.
 """
 from __future__ import annotations
 
@@ -79,7 +82,8 @@ void *malloc(size_t size) { return is_refused(__builtin_return_address(0)) ? 0 :
 void *realloc(void *old, size_t size) { return is_refused(__builtin_return_address(0)) ? 0 : __libc_realloc(old, size); }
 """
 
-# Each thread handles a signal that it posts to itself, adds to a shared word of its own, writes to pages of its data and of its stack, uses
+# Each thread handles a signal that it posts to itself, adds to a shared word of its own, writes to
+# pages of its data and of its stack, uses
 # vectors and ZA, and writes some output; so its block is the same on any number of cores.
 SOURCE = """\
 .text
@@ -186,7 +190,8 @@ USAGE = 2
 
 
 class Run:
-    """How a run ended, what it wrote, and how many growths it asked for; the status is None where it hangs."""
+    """How a run ended, what it wrote, and how many growths it asked for; the status is None where
+    it hangs."""
 
     def __init__(self, status: int, written: bytes, growths: int) -> None:
         self.status, self.written, self.growths = status, written, growths
@@ -203,19 +208,22 @@ class Refuser:
         self.program, self.folder, self.seconds = program, folder, seconds
         source = folder / "refuse.c"
         source.write_text(LIBRARY)
-        subprocess.run([compiler(), "-O1", "-shared", "-fPIC", "-o", folder / "refuse.so", source], check=True)
+        subprocess.run([compiler(), "-O1", "-shared", "-fPIC", "-o", folder / "refuse.so", source],
+                       check=True)
         self.count = folder / "count"
         self.count.write_bytes(bytes(8))
 
     def run(self, words: tuple[str, ...], first: int = 0, last: int = 0) -> Run:
         """A run that is refused the growths from the first to the last of these, counted from 1."""
-        environment = {"LD_PRELOAD": str(self.folder / "refuse.so"), "REFUSE_COUNT": str(self.count),
-                       "REFUSE_FIRST": str(first), "REFUSE_LAST": str(last)}
+        environment = {"LD_PRELOAD": str(self.folder / "refuse.so"),
+                       "REFUSE_COUNT": str(self.count), "REFUSE_FIRST": str(first),
+                       "REFUSE_LAST": str(last)}
         with open(self.count, "r+b") as file, mmap.mmap(file.fileno(), 8) as count:
             count[:] = bytes(8)
             try:
-                ended = subprocess.run([self.program, *words], stdin=subprocess.DEVNULL, stdout=subprocess.PIPE, env=environment,
-                                       cwd=self.folder, timeout=self.seconds)
+                ended = subprocess.run([self.program, *words], stdin=subprocess.DEVNULL,
+                                       stdout=subprocess.PIPE, env=environment, cwd=self.folder,
+                                       timeout=self.seconds)
                 status, written = ended.returncode, ended.stdout
             except subprocess.TimeoutExpired as expired:
                 status, written = None, expired.stdout or b""
@@ -225,11 +233,13 @@ class Refuser:
         """Puts what a command writes into a file."""
         made = self.run(words)
         if made.status != 0 or not made.growths:
-            sys.exit(f"{name}: the emulator ends with {made.status}, after {made.growths} growths that are seen")
+            sys.exit(f"{name}: the emulator ends with {made.status}, after {made.growths} "
+                     f"growths that are seen")
         (self.folder / name).write_bytes(made.written)
 
     def make_files(self) -> None:
-        for name, text in ("source", SOURCE), ("plan", PLAN), ("script", SCRIPT), ("vectors", VECTORS):
+        for name, text in ("source", SOURCE), ("plan", PLAN), ("script", SCRIPT), ("vectors",
+                                                                                   VECTORS):
             (self.folder / name).write_text(text)
         self.make("program", CASES["asm"])
         self.make("report", CASES["run"])
@@ -248,7 +258,8 @@ def fault(name: str, usual: Run, run: Run) -> Any:
         return None
     if run.status != 8:
         return f"ends with status {run.status} and {len(run.written)} bytes"
-    if run.written and not (name == "debug" and usual.written.startswith(run.written) and run.written.endswith(b"\n")):
+    if run.written and not (name == "debug" and usual.written.startswith(run.written)
+                            and run.written.endswith(b"\n")):
         return f"has written {len(run.written)} bytes before it ends with status 8"
     return None
 
@@ -261,7 +272,8 @@ def numbers(most: int, sample: int) -> Any:
 
 
 def try_all(refuser: Refuser, name: str, words: tuple[str, ...], sample: int) -> tuple[int, int]:
-    """Refuses each growth of a command, and prints what is wrong. Gives the number of runs, and of those that are wrong."""
+    """Refuses each growth of a command, and prints what is wrong. Gives the number of runs, and of
+    those that are wrong."""
     usual = refuser.run(words)
     if usual.status is None:
         print(f"{name}: hangs where nothing is refused")
@@ -281,13 +293,17 @@ def try_all(refuser: Refuser, name: str, words: tuple[str, ...], sample: int) ->
             if found:
                 wrong += 1
                 print(f"{name}: growth {number} of {usual.growths} refused, {said}: {found}")
-    told = ", ".join(f"{count} with status {status}" for status, count in sorted(ends.items(), key=str))
-    print(f"{name}: status {usual.status} after {usual.growths} growths; of {runs} runs ended {told}", flush=True)
+    told = ", ".join(f"{count} with status {status}"
+                     for status, count in sorted(ends.items(), key=str))
+    print(
+        f"{name}: status {usual.status} after {usual.growths} growths; of {runs} runs ended {told}",
+        flush=True)
     return runs, wrong
 
 
 def main() -> int:
-    parser = argparse.ArgumentParser(description=__doc__, formatter_class=argparse.RawDescriptionHelpFormatter)
+    parser = argparse.ArgumentParser(description=__doc__,
+                                     formatter_class=argparse.RawDescriptionHelpFormatter)
     parser.add_argument("--seconds", type=float, default=60)
     parser.add_argument("--sample", type=int, default=0)
     parser.add_argument("program", nargs="?")
@@ -297,7 +313,8 @@ def main() -> int:
     if unknown:
         parser.error(f"{', '.join(unknown)}: not among {', '.join(CASES)}")
     if not compiler():
-        print("refuse_growth: neither gcc nor clang is there, so nothing was tried", file=sys.stderr)
+        print("refuse_growth: neither gcc nor clang is there, so nothing was tried",
+              file=sys.stderr)
         return 0 if given.sample else 1
     program = os.path.abspath(given.program or emulator.find())
     with tempfile.TemporaryDirectory() as folder:

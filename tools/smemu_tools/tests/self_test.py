@@ -2,14 +2,16 @@
 
     ./smemu --test [--jobs N] [--only PART]..
 
-    rows       the programs, sources, plans, reports, scripts, checkpoints and files of vectors of crates/smemu_rows, with what each command answers
-    changes    files of these with changes, with the refusals, the differences and the blocks that they give
-    words      words with their texts, both ways, words that mean none, and lines of sources that are refused
-    pages      the commands of the documents, with what stands below them
-    scripts    the tests of the scripts, of the wrapper, and of what the system does to a run
+    rows       the programs, sources, plans, reports, scripts, checkpoints and files of vectors of
+    crates/smemu_rows, with what each command answers changes    files of these with changes, with
+    the refusals, the differences and the blocks that they give words      words with their texts,
+    both ways, words that mean none, and lines of sources that are refused pages      the commands
+    of the documents, with what stands below them scripts    the tests of the scripts, of the
+    wrapper, and of what the system does to a run
 
-N parts run at once, as many as there are processors where it is not given. A failure is shown with the command that shows it again. What is not tried
-is said: the rows of failing reads and writes, which the gate tries within the program, and what needs a tool that is not there. The last line is
+N parts run at once, as many as there are processors where it is not given. A failure is shown with
+the command that shows it again. What is not tried is said: the rows of failing reads and writes,
+which the gate tries within the program, and what needs a tool that is not there. The last line is
 `N passed, N failed`; the status is 1 where something failed. SMEMU names the emulator.
 """
 from __future__ import annotations
@@ -31,7 +33,8 @@ from smemu_tools.tests import doc_tests
 from smemu_tools.user import emulator, progress
 
 DATA = TOP / "crates" / "smemu_rows" / "data"
-CHANGES = ("altered.txt", "changed.txt", "frames.txt", "vector_lines.txt", "abi.txt", "checkpoints.txt")
+CHANGES = ("altered.txt", "changed.txt", "frames.txt", "vector_lines.txt", "abi.txt",
+           "checkpoints.txt")
 # of these each case is to come to its status, and to another text than the one that stands there
 DIFFERING = "altered_steps.txt"
 FAILING = "failing.txt"
@@ -50,12 +53,14 @@ class Result:
         if is_right:
             self.passed += 1
         else:
-            self.failures.append("\n".join(f"  {line}" if at else line for at, line in enumerate(lines())))
+            self.failures.append("\n".join(f"  {line}" if at else line
+                                           for at, line in enumerate(lines())))
 
 
 def answer(smemu: str, words: list[str]) -> tuple[int, bytes]:
     """The status and the output of a command, in the folder of the data."""
-    ended = subprocess.run([smemu, *words], cwd=DATA, stdin=subprocess.DEVNULL, stdout=subprocess.PIPE)
+    ended = subprocess.run([smemu, *words], cwd=DATA, stdin=subprocess.DEVNULL,
+                           stdout=subprocess.PIPE)
     return ended.returncode, ended.stdout
 
 
@@ -74,13 +79,15 @@ def brief(status: int, text: bytes) -> str:
 
 
 def try_rows(smemu: str, rows: list[str]) -> Result:
-    """Rows: a file, the status, and the words of a command, among which @ is the file; the answer is the file with .txt behind its name."""
+    """Rows: a file, the status, and the words of a command, among which @ is the file; the answer
+    is the file with .txt behind its name."""
     result = Result()
     for row in rows:
         name, status, words = row.split(" ", 2)
         words = [name if word == "@" else word for word in words.split()]
         found, wanted = answer(smemu, words), (int(status), (DATA / f"{name}.txt").read_bytes())
-        shown = lambda: [f"rows: {name}", again(smemu, words), f"wanted: {brief(*wanted)}, as in {name}.txt", f"found:  {brief(*found)}"]
+        shown = lambda: [f"rows: {name}", again(smemu, words),
+                         f"wanted: {brief(*wanted)}, as in {name}.txt", f"found:  {brief(*found)}"]
         result.check(found == wanted, shown)
     return result
 
@@ -106,7 +113,8 @@ def is_text(text: bytes, file: bytes, thread: str, wanted: str) -> bool:
     if wanted.startswith("#"):
         return wanted == f"#{len(text)} {hashlib.sha256(text).hexdigest()[:16]}"
     if wanted == "block":
-        found = re.search(rf"\n(thread {thread}\n.*?\nend-thread\n)", file.decode(errors="replace"), re.DOTALL)
+        found = re.search(rf"\n(thread {thread}\n.*?\nend-thread\n)", file.decode(errors="replace"),
+                          re.DOTALL)
         return bool(found) and text == found[1].encode()
     return text == wanted.replace("|", "\n").encode()
 
@@ -126,19 +134,25 @@ def try_cases(smemu: str, name: str, group: str, cases: list[str]) -> Result:
             content, status = after_changes(base, case)
             pathlib.Path(changed.name).write_bytes(content)
             found = answer(smemu, given)
-            is_right = found[0] == status and is_text(found[1], content, given[-1], text) == (name != DIFFERING)
-            result.check(is_right, lambda: failed_case(smemu, name, group, case, content, given, status, text, found))
+            is_right = found[0] == status and is_text(found[1], content, given[-1],
+                                                      text) == (name != DIFFERING)
+            result.check(is_right,
+                         lambda: failed_case(smemu, name, group, case, content, given, status, text,
+                                             found))
     return result
 
 
-def failed_case(smemu: str, name: str, group: str, case: str, file: bytes, words: list[str], status: int, text: str, found: tuple[int, bytes]) -> list[str]:
+def failed_case(smemu: str, name: str, group: str, case: str, file: bytes, words: list[str],
+                status: int, text: str, found: tuple[int, bytes]) -> list[str]:
     """What is shown of a case that failed; its file is kept."""
     with tempfile.NamedTemporaryFile(prefix="smemu-failed-", delete=False) as kept:
         kept.write(file)
     changed = next((word for word in words if os.sep in word), None)
-    wanted = f"wanted: status {status}, " + ("another text than " if name == DIFFERING else "") + text[:100]
+    wanted = f"wanted: status {status}, " + ("another text than " if name == DIFFERING
+                                             else "") + text[:100]
     words = [kept.name if word == changed else word for word in words]
-    return [f"changes: {name}: {group}: {case[:60]}", again(smemu, words), wanted, f"found:  {brief(*found)}"]
+    return [f"changes: {name}: {group}: {case[:60]}", again(smemu, words), wanted,
+            f"found:  {brief(*found)}"]
 
 
 def tasks_of_changes(smemu: str) -> Iterator[tuple[Callable[..., Any], str, str, str, list[str]]]:
@@ -159,7 +173,8 @@ def tasks_of_changes(smemu: str) -> Iterator[tuple[Callable[..., Any], str, str,
 
 
 def assembled(smemu: str, texts: list[str], result: Result, name: str) -> list[list[str]]:
-    """The words and texts of the listing of a source with these lines; a line that is refused fails, and is None."""
+    """The words and texts of the listing of a source with these lines; a line that is refused
+    fails, and is None."""
     left = list(enumerate(texts))
     found: list[Any] = [None] * len(texts)
     with tempfile.TemporaryDirectory() as folder:
@@ -173,7 +188,8 @@ def assembled(smemu: str, texts: list[str], result: Result, name: str) -> list[l
             at, text = left.pop(int(refused[1]) - 2)
             line = said.decode().partition("\n")[0]
             command = f"printf '_start:\\n    {text}\\n' | {smemu} asm /dev/stdin"
-            result.check(False, lambda: [f"words: {name}: {text}", f"again: {command}", f"found:  {line}"])
+            result.check(False,
+                         lambda: [f"words: {name}: {text}", f"again: {command}", f"found:  {line}"])
         program.write_bytes(said)
         lines = answer(smemu, ["dis", str(program)])[1].decode().splitlines()
     for (at, _), line in zip(left, lines):
@@ -191,8 +207,11 @@ def try_words(smemu: str, name: str) -> Result:
         is_alias = row[1] == "alias"
         if it:
             is_right = it[0] == wanted[0] and (it[1] == wanted[1]) == (not is_alias)
-            command = f"printf '_start:\\n    {row[-1]}\\n' > one.s; {smemu} asm one.s > one.elf; {smemu} dis one.elf"
-            result.check(is_right, lambda: [f"words: {name}: {' '.join(row)}", f"again: {command}", f"found:  {' '.join(it)}"])
+            command = (f"printf '_start:\\n    {row[-1]}\\n' > one.s; {smemu} "
+                       f"asm one.s > one.elf; {smemu} dis one.elf")
+            result.check(is_right,
+                         lambda: [f"words: {name}: {' '.join(row)}", f"again: {command}",
+                                  f"found:  {' '.join(it)}"])
     return result
 
 
@@ -205,7 +224,8 @@ def try_no_row(smemu: str) -> Result:
         answers = answer(smemu, ["vectors", file.name])[1].decode().splitlines()
     for at, word in enumerate(words):
         found = answers[at] if at < len(answers) else "nothing"
-        shown = lambda: [f"words: no_row.tsv: {word}", f"again: echo {word} | {smemu} vectors /dev/stdin", f"found:  {found}"]
+        shown = lambda: [f"words: no_row.tsv: {word}",
+                         f"again: echo {word} | {smemu} vectors /dev/stdin", f"found:  {found}"]
         result.check(found == f"raise undefined {word}", shown)
     return result
 
@@ -219,7 +239,8 @@ def try_faults(smemu: str) -> Result:
             pathlib.Path(source.name).write_text(f"_start:\n    nop\n{line}\n")
             found = answer(smemu, ["asm", source.name])
             wanted = (7, f"bad source: line 3: line {fault}\n".encode())
-            shown = lambda: [f"words: faults.tsv: {line}", f"wanted: {brief(*wanted)}", f"found:  {brief(*found)}"]
+            shown = lambda: [f"words: faults.tsv: {line}", f"wanted: {brief(*wanted)}",
+                             f"found:  {brief(*found)}"]
             result.check(found == wanted, shown)
     return result
 
@@ -231,31 +252,42 @@ def try_page(smemu: Any, page: Any, there: Any) -> Any:
     """The commands of a page."""
     result = Result()
     lines, _ = doc_tests.try_page(page, pathlib.Path(smemu), there)
-    ran, passed = map(int, re.search(r": (\d+) commands ran, (\d+) were passed over", lines[-1]).groups())
+    ran, passed = map(int,
+                      re.search(r": (\d+) commands ran, (\d+) were passed over",
+                                lines[-1]).groups())
     failed = [at for at, line in enumerate(lines) if re.match(rf"{re.escape(page)}:\d+: \$ ", line)]
     result.passed = ran - len(failed)
     for at, end in zip(failed, [*failed[1:], len(lines) - 1]):
-        result.check(False, lambda: [f"pages: {lines[at]}", f"again: tools/smemu-tools doc-tests {smemu} --page {page}", *(line.strip() for line in lines[at + 1:end])])
+        result.check(False,
+                     lambda: [f"pages: {lines[at]}",
+                              f"again: tools/smemu-tools doc-tests {smemu} --page {page}",
+                              *(line.strip() for line in lines[at + 1:end])])
     if passed:
         result.untried.append(f"{passed} commands of {page}, which need a tool that is not there")
     return result
 
 
 def try_script(smemu: Any, name: Any) -> Any:
-    """A script that tests others: its last line says how many checks there were, and how many failed."""
+    """A script that tests others: its last line says how many checks there were, and how many
+    failed."""
     result = Result()
     words = [sys.executable, str(TOOL), name, *[smemu] * (name != "script-tests")]
-    ended = subprocess.run(words, stdin=subprocess.DEVNULL, stdout=subprocess.PIPE, stderr=subprocess.STDOUT, text=True, errors="replace")
+    ended = subprocess.run(words, stdin=subprocess.DEVNULL, stdout=subprocess.PIPE,
+                           stderr=subprocess.STDOUT, text=True, errors="replace")
     lines = ended.stdout.splitlines()
     last = re.search(r"(\d+) checks, (\d+) failed$", lines[-1] if lines else "")
-    result.untried += [f"{line} ({name})" for line in lines if re.search(r"\bnot there\b|is not tried", line)]
+    result.untried += [f"{line} ({name})" for line in lines
+                       if re.search(r"\bnot there\b|is not tried", line)]
     if not last:
-        result.check(False, lambda: [f"scripts: {name} ended with status {ended.returncode}", f"again: {shlex.join(words)}", *lines[-5:]])
+        result.check(False,
+                     lambda: [f"scripts: {name} ended with status {ended.returncode}",
+                              f"again: {shlex.join(words)}", *lines[-5:]])
         return result
     result.passed = int(last[1]) - int(last[2])
     said = [f"scripts: {name}", f"again: {shlex.join(words)}", *lines[:-1]]
     for number in range(int(last[2])):
-        result.check(False, lambda: said if not number else [f"scripts: {name}, and another check of those above"])
+        result.check(False, lambda: said if not number
+                     else [f"scripts: {name}, and another check of those above"])
     return result
 
 
@@ -278,14 +310,17 @@ def tasks(smemu: Any, only: Any) -> Any:
     if wanted("changes"):
         yield from tasks_of_changes(smemu)
     if wanted("words"):
-        yield from ((try_words, smemu, name) for name in ("words.tsv", "vector_words.tsv", "debug_words.tsv", "texts.tsv"))
+        yield from ((try_words, smemu, name)
+                    for name in ("words.tsv", "vector_words.tsv", "debug_words.tsv", "texts.tsv"))
         yield from ((try_no_row, smemu), (try_faults, smemu))
 
 
 def main() -> int:
-    parser = argparse.ArgumentParser(prog="smemu --test", description=__doc__, formatter_class=argparse.RawDescriptionHelpFormatter)
+    parser = argparse.ArgumentParser(prog="smemu --test", description=__doc__,
+                                     formatter_class=argparse.RawDescriptionHelpFormatter)
     parser.add_argument("--jobs", type=int, default=len(os.sched_getaffinity(0)), metavar="N")
-    parser.add_argument("--only", action="append", choices=("rows", "changes", "words", "pages", "scripts"), metavar="PART")
+    parser.add_argument("--only", action="append",
+                        choices=("rows", "changes", "words", "pages", "scripts"), metavar="PART")
     words = parser.parse_args()
     smemu = str(pathlib.Path(emulator.find()).resolve())
     told, passed, failed, untried = progress.Progress(), 0, 0, []
@@ -293,7 +328,8 @@ def main() -> int:
         asked = [pool.submit(*task) for task in tasks(smemu, words.only)]
         for done, it in enumerate(concurrent.futures.as_completed(asked), 1):
             result = it.result()
-            passed, failed, untried = passed + result.passed, failed + len(result.failures), untried + result.untried
+            passed, failed, untried = (passed + result.passed, failed + len(result.failures),
+                                       untried + result.untried)
             if result.failures:
                 told.clear()
                 print(*result.failures, sep="\n", flush=True)
@@ -301,7 +337,8 @@ def main() -> int:
     told.clear()
     if not words.only or "rows" in words.only:
         rows = sum("\t" not in line for line in (DATA / FAILING).read_text().splitlines())
-        untried.append(f"{rows} rows whose reads and writes fail in turn, which the gate tries within the program")
+        untried.append(f"{rows} rows whose reads and writes fail in turn, "
+                       f"which the gate tries within the program")
     if (not words.only or "pages" in words.only) and not doc_tests.has_terminal():
         untried.append("the pages, as there is no pseudo-terminal here")
     for line in untried:

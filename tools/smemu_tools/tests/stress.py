@@ -1,10 +1,12 @@
-"""Runs examples/stress.s on 1, 2, 3, 4 and 64 cores, and looks at each report: every thread ends with 0, the shared words are the sums,
-each thread's replay is its block, and the journals are parts of one history that ends in the words.
+"""Runs examples/stress.s on 1, 2, 3, 4 and 64 cores, and looks at each report: every thread ends
+with 0, the shared words are the sums, each thread's replay is its block, and the journals are parts
+of one history that ends in the words.
 
     tools/smemu-tools stress [RUNS [THREADS [PROGRAM]]]
 
-RUNS is how often on each number of cores, 50 if not given, and THREADS 6 (with many the search is long); PROGRAM is the emulator, by default that which
-./smemu --build makes. The history is looked for here, by the rule of each operation alone, and none of it is taken from the emulator.
+RUNS is how often on each number of cores, 50 if not given, and THREADS 6 (with many the search is
+long); PROGRAM is the emulator, by default that which ./smemu --build makes. The history is looked
+for here, by the rule of each operation alone, and none of it is taken from the emulator.
 """
 from __future__ import annotations
 
@@ -51,8 +53,9 @@ def parse(report: str) -> tuple[list[list[Event]], dict[tuple[str, int], int]]:
 
 
 class Search:
-    """Looks for a history of which the journals are parts. Where an event leaves its word, it is made at once: nothing is lost by it. Of
-    those that change a word, the one is tried first whose thread adds to a word the soonest: what an addition answers tells its place."""
+    """Looks for a history of which the journals are parts. Where an event leaves its word, it is
+    made at once: nothing is lost by it. Of those that change a word, the one is tried first whose
+    thread adds to a word the soonest: what an addition answers tells its place."""
 
     def __init__(self, journals: list[list[Event]]) -> None:
         self.journals = journals
@@ -100,7 +103,8 @@ class Search:
                     at[thread] += 1
                     moved = True
 
-    def choices(self, at: list[int], words: dict[tuple[str, int], int]) -> list[tuple[int, int, tuple[str, int], int]]:
+    def choices(self, at: list[int],
+                words: dict[tuple[str, int], int]) -> list[tuple[int, int, tuple[str, int], int]]:
         found = []
         for thread, journal in enumerate(self.journals):
             if at[thread] < len(journal):
@@ -111,7 +115,8 @@ class Search:
         return sorted(found, reverse=True)
 
     def words_at_end(self) -> dict[tuple[str, int], int] | None:
-        """The words at the end of such a history that are not zero, or None where there is no history."""
+        """The words at the end of such a history that are not zero, or None where there is no
+        history."""
         at, words, open_choices = [0] * len(self.journals), {}, []
         while True:
             self.settle(at, words)
@@ -131,11 +136,13 @@ class Search:
 
 def said(program: pathlib.Path, *words: int | str) -> tuple[int, str]:
     """What the emulator writes, with its status."""
-    done = subprocess.run([str(program), *map(str, words)], capture_output=True, text=True, timeout=600)
+    done = subprocess.run([str(program), *map(str, words)], capture_output=True, text=True,
+                          timeout=600)
     return done.returncode, done.stdout
 
 
-def faults(program: pathlib.Path, elf: str, report_file: str, report: str, threads: int) -> list[Any]:
+def faults(program: pathlib.Path, elf: str, report_file: str, report: str,
+           threads: int) -> list[Any]:
     """What is wrong with a report."""
     found = []
     journals, words = parse(report)
@@ -157,19 +164,23 @@ def main() -> int:
     words = parser(__doc__)
     words.add_argument("runs", type=int, nargs="?", default=50, metavar="RUNS")
     words.add_argument("threads", type=int, nargs="?", default=6, metavar="THREADS")
-    words.add_argument("program", type=pathlib.Path, nargs="?", default=TOP / "crates/smemu_cli/out/smemu_cli", metavar="PROGRAM")
+    words.add_argument("program", type=pathlib.Path, nargs="?",
+                       default=TOP / "crates/smemu_cli/out/smemu_cli", metavar="PROGRAM")
     runs, threads, program = vars(words.parse_args()).values()
     bad = 0
     with tempfile.TemporaryDirectory() as folder:
         elf, report_file = f"{folder}/stress.elf", f"{folder}/stress.report"
-        done = subprocess.run([str(program), "asm", str(TOP / "examples" / "stress.s")], capture_output=True, timeout=600)
+        done = subprocess.run([str(program), "asm", str(TOP / "examples" / "stress.s")],
+                              capture_output=True, timeout=600)
         pathlib.Path(elf).write_bytes(done.stdout)
         for cores in CORES:
             reports = set()
             for _ in range(runs):
-                status, report = said(program, "run", elf, "--threads", threads, "--cores", cores, "--slice", 50)
+                status, report = said(program, "run", elf, "--threads", threads, "--cores", cores,
+                                      "--slice", 50)
                 pathlib.Path(report_file).write_text(report)
-                wrong = faults(program, elf, report_file, report, threads) if status == 0 else [f"status {status}"]
+                wrong = faults(program, elf, report_file, report,
+                               threads) if status == 0 else [f"status {status}"]
                 for it in wrong:
                     print(f"{cores} cores: {it}")
                 bad += bool(wrong)

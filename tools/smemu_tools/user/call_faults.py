@@ -1,7 +1,9 @@
-"""What a thread's calls leave otherwise than AAPCS64 has it: a lazy save that is not restored, registers that a call is to keep, PSTATE.SM, SP.
+"""What a thread's calls leave otherwise than AAPCS64 has it: a lazy save that is not restored,
+registers that a call is to keep, PSTATE.SM, SP.
 
-Each BL and BLR is followed to its return: the first later BR or RET that leads to the address after it with the SP of the call, within the same handler.
-smemu za-calls shows what is found, beside what it says itself of ZA over each call.
+Each BL and BLR is followed to its return: the first later BR or RET that leads to the address after
+it with the SP of the call, within the same handler. smemu za-calls shows what is found, beside what
+it says itself of ZA over each call.
 """
 from __future__ import annotations
 
@@ -16,9 +18,11 @@ USE = re.compile(r"(?:[su]{1,3}mop[as]|addha|addva|str za|st1[bhwdq] \{za|mova z
 WRITE = re.compile(r"(?:zero |ldr za|ld1[bhwdq] \{za|mova za)")
 CLEAR = re.compile(r"msr tpidr2_el0, ")
 CALLS, BACKS, USES, WRITES, CLEARS, DELIVERY, RETURN = range(7)
-KINDS = ("not restored", "not cleared", "restored with ZA off", "restored without a save", "not finished", "few slices", "bad block", "left on", "mode",
-         "registers", "vectors", "stack")
-# what a callee keeps: of vectors by the base convention the low 8 bytes, by the vector convention all
+KINDS = ("not restored", "not cleared", "restored with ZA off", "restored without a save",
+         "not finished", "few slices", "bad block", "left on", "mode", "registers", "vectors",
+         "stack")
+# what a callee keeps: of vectors by the base convention the low 8 bytes, by the vector convention
+# all
 KEPT = [f"x {number}" for number in range(19, 30)]
 LOW_VECTORS = [f"z {number}" for number in range(8, 16)]
 VECTORS = [f"z {number}" for number in range(8, 24)] + [f"p {number}" for number in range(4, 16)]
@@ -53,14 +57,16 @@ class Call:
     """A call that is open: its count, its address, where it went, and the state before it."""
 
     def __init__(self, number: int, count: int, address: int, target: int, state: State) -> None:
-        self.number, self.count, self.address, self.target, self.state = number, count, address, target, state
+        self.number, self.count, self.address, self.target, self.state = (number, count, address,
+                                                                          target, state)
         self.key = (address + 4) % 2 ** 64, state.number("sp")
         self.pointer = state.number("tpidr2") if state.is_on else 0
         self.slices = 0
 
 
 class Debt:
-    """A call that was made with ZA dormant and came back: the caller is to clear TPIDR2_EL0, and to restore ZA if it was saved, before it uses ZA."""
+    """A call that was made with ZA dormant and came back: the caller is to clear TPIDR2_EL0, and to
+    restore ZA if it was saved, before it uses ZA."""
 
     def __init__(self, call: Call, is_saved: bool, at: int) -> None:
         self.call, self.is_saved, self.at = call, is_saved, at
@@ -68,14 +74,16 @@ class Debt:
 
 
 class Fault:
-    """A call that is at fault: its kind, the count and the address at which that is told, and what is at fault."""
+    """A call that is at fault: its kind, the count and the address at which that is told, and what
+    is at fault."""
 
     def __init__(self, kind: str, call: Call, count: int, address: int, what: str = "") -> None:
         self.kind, self.call, self.count, self.address, self.what = kind, call, count, address, what
 
 
 class Level:
-    """The calls that are open in one handler, or outside of all, by their keys, and what they owe."""
+    """The calls that are open in one handler, or outside of all, by their keys, and what they
+    owe."""
 
     def __init__(self) -> None:
         self.open, self.debts = {}, []
@@ -84,8 +92,11 @@ class Level:
 class Checker:
     """Follows the calls of a thread, and finds those at fault."""
 
-    def __init__(self, thread: Any, block: Any, texts: dict[int, str], name_of: Callable[..., Any], follows_vectors: Callable[..., Any]) -> None:
-        self.thread, self.block, self.texts, self.name_of, self.follows_vectors = thread, block, texts, name_of, follows_vectors
+    def __init__(self, thread: Any, block: Any, texts: dict[int, str], name_of: Callable[..., Any],
+                 follows_vectors: Callable[..., Any]) -> None:
+        self.thread, self.block, self.texts, self.name_of, self.follows_vectors = (thread, block,
+                                                                                   texts, name_of,
+                                                                                   follows_vectors)
         self.signals = counted.Signals(thread, block, texts)
         self.faults, self.levels, self.frames, self.number = [], [Level()], {}, 0
         self.left: int | None = None
@@ -93,10 +104,12 @@ class Checker:
     # what happened, in order
 
     def hits(self, pattern: re.Pattern, kind: int) -> list[tuple[int, int, int]]:
-        return [(count, kind, address) for address, text in self.texts.items() if pattern.match(text) for count in self.thread.all_hits(address)]
+        return [(count, kind, address) for address, text in self.texts.items()
+                if pattern.match(text) for count in self.thread.all_hits(address)]
 
     def events(self) -> list[tuple[int, int, int]]:
-        """The counts of calls, returns and deliveries, and of what touches ZA if some call is made with ZA dormant."""
+        """The counts of calls, returns and deliveries, and of what touches ZA if some call is made
+        with ZA dormant."""
         found = self.hits(CALL, CALLS) + self.hits(BACK, BACKS)
         if len(found) > MOST:
             found.sort()
@@ -110,12 +123,14 @@ class Checker:
         for count, delivery in begun.items():
             found.append((count, DELIVERY, delivery.first))
             text = self.texts.get(delivery.first, "")
-            found += [(count, kind, delivery.first) for pattern, kind in ((CALL, CALLS), (BACK, BACKS)) if pattern.match(text)]
+            found += [(count, kind, delivery.first)
+                      for pattern, kind in ((CALL, CALLS), (BACK, BACKS)) if pattern.match(text)]
         found += [(count, RETURN, 0) for count in self.signals.returns]
         return sorted(found, key=lambda it: (it[0], it[1] != DELIVERY))
 
     def states(self, events: Any) -> Iterator[tuple[int, int, int, list[State]]]:
-        """Each event with the states that it needs: the one before a call, a return or a use, and the one after a return."""
+        """Each event with the states that it needs: the one before a call, a return or a use, and
+        the one after a return."""
         for at in range(0, len(events), PART):
             part = events[at:at + PART]
             asked = [it for count, kind, _ in part for it in self.asked(count, kind)]
@@ -160,7 +175,8 @@ class Checker:
                 self.touch(level, count, address, kind == USES)
         if self.block.stop.name == "raised" and self.left is None:
             for debt in (it for level in self.levels for it in level.debts if it.is_saved):
-                self.tell("not finished", debt.call, self.thread.end, self.thread.state(self.thread.end).pc)
+                self.tell("not finished", debt.call, self.thread.end,
+                          self.thread.state(self.thread.end).pc)
         return sorted(self.faults, key=lambda it: (it.call.count, it.count))
 
     def tell(self, kind: str, call: Call, count: int, address: int, what: str = "") -> Any:
@@ -177,12 +193,15 @@ class Checker:
         if count in self.signals.deliveries:
             target = state.number("pc")
         call = Call(self.number, count, address, target, state)
-        if (self.name_of(target) != RESTORE or self.is_restore_in_order(level, call)) and state.is_on:
+        if (self.name_of(target) != RESTORE
+                or self.is_restore_in_order(level, call)) and state.is_on:
             for debt in self.current(level):
                 if call.pointer and call.pointer == debt.call.pointer:
-                    # one call after the other with the same block: the last of them is to be followed by the restore
+                    # one call after the other with the same block: the last of them is to be
+                    # followed by the restore
                     level.debts.remove(debt)
-                elif state.number("x 0") != debt.call.pointer or debt.is_cleared and self.is_back(debt, count):
+                elif state.number("x 0") != debt.call.pointer or debt.is_cleared and self.is_back(
+                        debt, count):
                     self.decide(level, debt, count, address)
         for debt in level.debts:
             debt.younger += 1
@@ -197,18 +216,21 @@ class Checker:
         if not call.state.is_on:
             self.tell("restored with ZA off", call, call.count, call.address)
             return False
-        if not any(debt.is_saved and debt.call.pointer == call.state.number("x 0") for debt in self.current(level)):
+        if not any(debt.is_saved and debt.call.pointer == call.state.number("x 0")
+                   for debt in self.current(level)):
             self.tell("restored without a save", call, call.count, call.address)
             return False
         return True
 
     def read_block(self, call: Call, is_passed_on: bool) -> Any:
-        """Looks at the block of a call that is made with ZA dormant: it is at fault where it is set up, not where a callee passes it on."""
+        """Looks at the block of a call that is made with ZA dormant: it is at fault where it is set
+        up, not where a callee passes it on."""
         rows, place = self.thread.rows, call.pointer
         data = self.thread.memory(call.count, place, 16)
         start, slices = int.from_bytes(data[:8], "little"), int.from_bytes(data[8:10], "little")
         if len(data) < 16 or any(data[10:]):
-            return is_passed_on or self.tell("bad block", call, call.count, call.address, f"{place:016x}")
+            return is_passed_on or self.tell("bad block", call, call.count, call.address,
+                                             f"{place:016x}")
         if not start or not slices:
             return None
         call.slices = min(slices, rows)
@@ -216,7 +238,8 @@ class Checker:
             return None
         size = min(slices, rows) * rows
         # the buffer is another memory than the block, and is all there
-        if start < place + 16 and place < start + size or len(self.thread.memory(call.count, start, size)) < size:
+        if start < place + 16 and place < start + size or len(self.thread.memory(call.count, start,
+                                                                                 size)) < size:
             self.tell("bad block", call, call.count, call.address, f"{place:016x}")
         elif slices < rows:
             self.tell("few slices", call, call.count, call.address, f"{slices} of {rows}")
@@ -240,7 +263,8 @@ class Checker:
         if call is None:
             call = next(reversed(level.open.values()), None)
             if call and call.key[0] == place:
-                self.tell("stack", call, count + 1, place, f"sp {call.key[1]:016x} becomes {state.number('sp'):016x}")
+                self.tell("stack", call, count + 1, place,
+                          f"sp {call.key[1]:016x} becomes {state.number('sp'):016x}")
                 self.leave(level, call)
             return
         if before.is_on:
@@ -254,13 +278,16 @@ class Checker:
         """Compares the state after a call's return with the one before it."""
         old = call.state
         if old.mode != state.mode:
-            self.tell("mode", call, count, place, f"svcr {old.held['svcr']} becomes {state.held['svcr']}")
+            self.tell("mode", call, count, place,
+                      f"svcr {old.held['svcr']} becomes {state.held['svcr']}")
         changed = [name for name in KEPT if old.number(name) != state.number(name)]
         if changed:
             self.tell("registers", call, count, place, ", ".join(changed))
         names = VECTORS if self.follows_vectors(call.target) else LOW_VECTORS
         length = None if names is VECTORS else 16
-        changed = [name for name in names if value(old, name, length) != value(state, name, length)] if old.mode == state.mode else []
+        changed = [name for name in names
+                   if value(old, name, length)
+                   != value(state, name, length)] if old.mode == state.mode else []
         if changed:
             self.tell("vectors", call, count, place, ", ".join(changed))
         if not call.pointer:
@@ -280,7 +307,8 @@ class Checker:
         return [debt for debt in level.debts if not debt.younger]
 
     def is_back(self, debt: Debt, count: int) -> bool:
-        """Tells whether ZA is at a count as it was before the call, as many slices as the block says."""
+        """Tells whether ZA is at a count as it was before the call, as many slices as the block
+        says."""
         one, other = self.thread.za(debt.call.count), self.thread.za(count)
         return all(one.get(row, None) == other.get(row, None) for row in range(debt.call.slices))
 
@@ -293,7 +321,8 @@ class Checker:
             self.tell("not cleared", debt.call, count, address)
 
     def touch(self, level: Level, count: int, address: int, is_use: bool) -> None:
-        """An instruction that uses ZA, or writes it: whoever writes what is new gives up what was saved."""
+        """An instruction that uses ZA, or writes it: whoever writes what is new gives up what was
+        saved."""
         for debt in self.current(level):
             if is_use:
                 self.decide(level, debt, count, address)
@@ -310,11 +339,14 @@ def lines_of(faults: Any, known: Any) -> Iterator[str]:
     """A line for each place of calls and each kind of fault."""
     by_place = {}
     for fault in faults:
-        by_place.setdefault((fault.call.address, fault.call.target, KINDS.index(fault.kind)), []).append(fault)
+        by_place.setdefault((fault.call.address, fault.call.target, KINDS.index(fault.kind)),
+                            []).append(fault)
     known.learn(it.address for fault in faults for it in (fault, fault.call))
     for (address, target, kind), here in sorted(by_place.items()):
         first = here[0]
         to = known.function(target) or f"{target:016x}"
-        at = f", at {known.text(first.address)}" if first.address not in (address, address + 4) else ""
+        at = f", at {known.text(first.address)}" if first.address not in (address,
+                                                                          address + 4) else ""
         what = f" ({first.what})" if first.what else ""
-        yield f"{known.text(address)} calls {to}: {KINDS[kind]} {len(here)}{what}: counts {first.call.count} to {first.count}{at}"
+        yield (f"{known.text(address)} calls {to}: {KINDS[kind]} {len(here)}{what}: "
+               f"counts {first.call.count} to {first.count}{at}")

@@ -2,8 +2,9 @@
 
     ./smemu --completions bash|zsh|fish
 
-The commands, the scripts and the words of the wrapper are those of `smemu --help`, and the options of
-each are those of `smemu VERB --help`: a word that no help has is not offered, and each that one has is.
+The commands, the scripts and the words of the wrapper are those of `smemu --help`, and the options
+of each are those of `smemu VERB --help`: a word that no help has is not offered, and each that one
+has is.
 """
 from __future__ import annotations
 
@@ -34,7 +35,8 @@ def asked(*words: str) -> str:
 
 
 def entries(text: str) -> list[list[str]]:
-    """Each line of a help that stands for a word or an option: what stands there, and what it is."""
+    """Each line of a help that stands for a word or an option: what stands there, and what it
+    is."""
     found = []
     for line in text.split("\n"):
         entry = re.fullmatch(r"  (?:-h, )?((?:--)?[a-z][a-z-]*)((?: \S+)*)(?:  +(.*))?", line)
@@ -56,15 +58,18 @@ def values_of(value: str, text: str) -> list[str]:
 
 def options_of(verb: str) -> list[Option]:
     """The options that the help of a word shows, but for that help."""
-    found = [it for it in entries(asked(verb, "--help")) if it[0].startswith("--") and it[0] != "--help"]
-    return [Option(name, value or None, text, values_of(value, text)) for name, value, text in found]
+    found = [it for it in entries(asked(verb, "--help"))
+             if it[0].startswith("--") and it[0] != "--help"]
+    return [Option(name, value or None, text, values_of(value, text))
+            for name, value, text in found]
 
 
 @functools.lru_cache()
 def table() -> list[Verb]:
     """All words that may stand first, each with its options."""
     text = asked("--help")
-    parts = [part for part in text.split("\n\n") if not part.startswith(("options", "statuses", "what"))]
+    parts = [part for part in text.split("\n\n")
+             if not part.startswith(("options", "statuses", "what"))]
     words = [(name, text) for part in parts for name, _, text in entries(part)]
     made = {name: options_of(name) for name, _ in words if not name.startswith("-")}
     known = {it.name: it for it in made["run"]}
@@ -72,8 +77,8 @@ def table() -> list[Verb]:
     made["exec"] = [known[name] for name in execute.OPTIONS]
     for options in made.values():
         # a length is one wherever it is asked for
-        options[:] = [it._replace(values=it.values or known[it.name].values) if it.name in known else it
-                      for it in options]
+        options[:] = [it._replace(values=it.values or known[it.name].values) if it.name in known
+                      else it for it in options]
     return [Verb(name, text, made.get(name, [])) for name, text in words]
 
 
@@ -82,9 +87,11 @@ def quoted(text: str) -> str:
 
 
 def by_values(verbs: list[Verb]) -> list[tuple[str, str]]:
-    """The values of options that have few, each with a pattern of the words after which they stand."""
+    """The values of options that have few, each with a pattern of the words after which they
+    stand."""
     sorts = collections.defaultdict(list)
-    for verb, option in ((verb, option) for verb in verbs for option in verb.options if option.values):
+    for verb, option in ((verb, option) for verb in verbs for option in verb.options
+                         if option.values):
         sorts[" ".join(option.values)].append(quoted(f"{verb.name} {option.name}"))
     sorts[" ".join(SHELLS)].append("'--completions --completions'")
     return [(values, " | ".join(patterns)) for values, patterns in sorts.items()]
@@ -110,10 +117,13 @@ complete -o bashdefault -o default -F _smemu smemu
 
 
 def bash(verbs: list[Verb]) -> str:
-    values = "".join(f"        {pattern}) words={quoted(values)} ;;\n" for values, pattern in by_values(verbs))
-    options = "".join(f"            {it.name}) words={quoted(' '.join(option.name for option in it.options))} ;;\n"
+    values = "".join(f"        {pattern}) words={quoted(values)} ;;\n"
+                     for values, pattern in by_values(verbs))
+    options = "".join(f"            {it.name}) "
+                      f"words={quoted(' '.join(option.name for option in it.options))} ;;\n"
                       for it in verbs if it.options)
-    return BASH.format(first=quoted(" ".join(it.name for it in verbs)), values=values, options=options)
+    return BASH.format(first=quoted(" ".join(it.name for it in verbs)), values=values,
+                       options=options)
 
 
 ZSH = """#compdef smemu
@@ -139,11 +149,13 @@ fi
 
 def described(items: Any, left: str) -> str:
     """A line for each word with what it is."""
-    return "".join(f"{left}{quoted(it.name + (':' + it.text if it.text else ''))}\n" for it in items)
+    return "".join(f"{left}{quoted(it.name + (':' + it.text if it.text else ''))}\n"
+                   for it in items)
 
 
 def zsh(verbs: list[Verb]) -> str:
-    values = "".join(f"    {pattern}) compadd {values}; return ;;\n" for values, pattern in by_values(verbs))
+    values = "".join(f"    {pattern}) compadd {values}; return ;;\n"
+                     for values, pattern in by_values(verbs))
     options = "".join(f"    {it.name}) found=(\n{described(it.options, ' ' * 8)}        ) ;;\n"
                       for it in verbs if it.options)
     return ZSH.format(first=described(verbs, " " * 8), values=values, options=options)
@@ -164,11 +176,14 @@ def fish(verbs: list[Verb]) -> str:
     said = [FISH + f"complete -c smemu -n '__smemu_is --completions' -f -a '{' '.join(SHELLS)}'"]
     escaped = lambda text: "'" + text.replace("\\", "\\\\").replace("'", "\\'") + "'"
     for verb in verbs:
-        said.append(f"complete -c smemu -n __smemu_is_first -f -a {verb.name} -d {escaped(verb.text)}")
+        said.append(
+            f"complete -c smemu -n __smemu_is_first -f -a {verb.name} -d {escaped(verb.text)}")
         for it in verb.options:
-            value = f" -x -a {escaped(' '.join(it.values))}" if it.values else " -r" if it.value else ""
+            value = (f" -x -a {escaped(' '.join(it.values))}" if it.values else " -r" if it.value
+                     else "")
             text = f" -d {escaped(it.text)}" if it.text else ""
-            said.append(f"complete -c smemu -n '__smemu_is {verb.name}' -l {it.name[2:]}{value}{text}")
+            said.append(
+                f"complete -c smemu -n '__smemu_is {verb.name}' -l {it.name[2:]}{value}{text}")
     return "\n".join(said) + "\n"
 
 
@@ -178,7 +193,8 @@ def written(shell: str, verbs: list[Verb]) -> str:
 
 
 def main() -> int:
-    words = argparse.ArgumentParser(prog="smemu --completions", description=__doc__.partition("\n\n")[0])
+    words = argparse.ArgumentParser(prog="smemu --completions",
+                                    description=__doc__.partition("\n\n")[0])
     words.add_argument("shell", choices=SHELLS)
     print(written(words.parse_args().shell, table()), end="")
     return 0

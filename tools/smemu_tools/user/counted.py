@@ -1,7 +1,9 @@
-"""Counts the instructions that a thread of a report executed: by address, and by the calls that led to them.
+"""Counts the instructions that a thread of a report executed: by address, and by the calls that led
+to them.
 
-`debug` says at each count which instruction comes next. The counts are asked for in parts, several at once, by processes of their own, which send back
-runs of addresses up to the next call or return; the calls are followed in one pass over these.
+`debug` says at each count which instruction comes next. The counts are asked for in parts, several
+at once, by processes of their own, which send back runs of addresses up to the next call or return;
+the calls are followed in one pass over these.
 """
 from __future__ import annotations
 
@@ -18,7 +20,8 @@ from typing import Any, Callable, Iterator
 
 from smemu_tools.user import emulator, recorded, reports
 
-# the counts that one call of `debug` goes over, the bytes of it that are read at once, and the processes
+# the counts that one call of `debug` goes over, the bytes of it that are read at once, and the
+# processes
 LEAST_PART, MOST_PART = 20_000, 4_000_000
 BLOCK = 1 << 16
 PROCESSES = min(4, os.cpu_count() or 1)
@@ -55,12 +58,15 @@ def key(address: int) -> bytes:
     return b"%016x" % address
 
 
-def addresses(words: Any, low: Any, high: Any, show: Any = None) -> Iterator[tuple[int, list[bytes]]]:
-    """What `debug` says from a count to below another, in lists of lines without the count: the address and the text of each instruction."""
+def addresses(words: Any, low: Any, high: Any,
+              show: Any = None) -> Iterator[tuple[int, list[bytes]]]:
+    """What `debug` says from a count to below another, in lists of lines without the count: the
+    address and the text of each instruction."""
     with tempfile.TemporaryFile() as script:
         script.write(b"goto %d\nwhere\n" % low + b"step 1\nwhere\n" * (high - low - 1))
         script.seek(0)
-        process = subprocess.Popen([str(word) for word in words], stdin=script, stdout=subprocess.PIPE)
+        process = subprocess.Popen([str(word) for word in words], stdin=script,
+                                   stdout=subprocess.PIPE)
     rest, count, written = b"", low, b""
     try:
         while block := process.stdout.read(BLOCK):
@@ -82,11 +88,13 @@ def addresses(words: Any, low: Any, high: Any, show: Any = None) -> Iterator[tup
             process.kill()
         status = process.wait()
     if status or count != high:
-        raise emulator.Refused(written.decode(errors="replace").strip() or f"the emulator ended with status {status}", status or 1)
+        raise emulator.Refused(written.decode(errors="replace").strip()
+                               or f"the emulator ended with status {status}", status or 1)
 
 
 class Part:
-    """The instructions from a count to below another: runs of addresses, in order, and what each run has."""
+    """The instructions from a count to below another: runs of addresses, in order, and what each
+    run has."""
 
     def __init__(self) -> None:
         self.order, self.runs, self.known = array.array("I"), [], {}
@@ -108,8 +116,9 @@ class Part:
 
 
 def read_part(words: Any, low: Any, high: Any, ends: Any, handled: Any, done: Any = None) -> Any:
-    """The part from a count to below another. `ends` are the addresses after which a run ends, and `handled` the counts at which a handler begins, with
-    the address of its first instruction; `done` takes the number of instructions that were read since it was called last."""
+    """The part from a count to below another. `ends` are the addresses after which a run ends, and
+    `handled` the counts at which a handler begins, with the address of its first instruction;
+    `done` takes the number of instructions that were read since it was called last."""
     part, before = Part(), low
 
     def show(count: Any) -> None:
@@ -154,13 +163,17 @@ def read_told(words: Any, low: Any, high: Any, ends: Any, handled: Any) -> Any:
         return str(fault), fault.status
 
 
-def parts(words: Any, end: Any, ends: Any, handled: Any, show: Any = None) -> Iterator[tuple[Any, list[tuple[bytes, bytes, int, dict[Any, Any]]]]]:
+def parts(words: Any, end: Any, ends: Any, handled: Any,
+          show: Any = None) -> Iterator[tuple[Any, list[tuple[bytes, bytes, int, dict[Any, Any]]]]]:
     """The parts of a thread, in order."""
     size = max(LEAST_PART, min(MOST_PART, -(-end // PROCESSES)))
     spans = [(low, min(end, low + size)) for low in range(0, end, size)]
     counter: Any = multiprocessing.Value("Q", 0)
-    with concurrent.futures.ProcessPoolExecutor(min(PROCESSES, len(spans) or 1), initializer=begin, initargs=(counter,)) as pool:
-        told = [pool.submit(read_told, words, low, high, ends, {it: handled[it] for it in handled if low <= it < high}) for low, high in spans]
+    with concurrent.futures.ProcessPoolExecutor(min(PROCESSES, len(spans) or 1), initializer=begin,
+                                                initargs=(counter,)) as pool:
+        told = [pool.submit(read_told, words, low, high, ends,
+                            {it: handled[it] for it in handled if low <= it < high})
+                for low, high in spans]
         try:
             for it in told:
                 while show and not it.done():
@@ -179,7 +192,8 @@ def parts(words: Any, end: Any, ends: Any, handled: Any, show: Any = None) -> It
 
 
 class Delivery:
-    """Handlers that begin at a count, the last of which is executed first: each with its address and its frame's."""
+    """Handlers that begin at a count, the last of which is executed first: each with its address
+    and its frame's."""
 
     def __init__(self, count: int, address: int) -> None:
         self.count, self.interrupted = count, address
@@ -193,9 +207,11 @@ class Delivery:
 
 
 class Signals:
-    """The signals of a thread: its deliveries by count, and the returns from handlers by count, each with its frame's address."""
+    """The signals of a thread: its deliveries by count, and the returns from handlers by count,
+    each with its frame's address."""
 
-    def __init__(self, thread: recorded.Recorded, block: reports.Thread, texts: dict[int, str]) -> None:
+    def __init__(self, thread: recorded.Recorded, block: reports.Thread,
+                 texts: dict[int, str]) -> None:
         self.thread, self.vl, self.svl = thread, thread.report.vl // 8, thread.report.svl // 8
         self.deliveries, self.returns, self.handlers = {}, {}, []
         polls = [event.answer for event in block.journal if event.kind == "poll"]
@@ -206,7 +222,8 @@ class Signals:
 
     def read_calls(self, texts: dict[int, str]) -> None:
         """Finds the calls that set handlers, and those that return from them."""
-        hits = sorted(count for address, text in texts.items() if text.startswith("svc") for count in self.thread.all_hits(address))
+        hits = sorted(count for address, text in texts.items() if text.startswith("svc")
+                      for count in self.thread.all_hits(address))
         for count, registers in zip(hits, self.registers(hits)):
             if registers["x 8"] == SET_HANDLER:
                 self.handlers.append((count, registers["x 0"], registers["x 1"]))
@@ -215,9 +232,12 @@ class Signals:
 
     def registers(self, counts: list[int]) -> Iterator[dict[str, int]]:
         """The registers at counts, as numbers."""
-        for lines in self.thread.ask([it for count in counts for it in (f"goto {count}", "regs")])[1::2]:
+        for lines in self.thread.ask([it for count in counts
+                                      for it in (f"goto {count}", "regs")])[1::2]:
             held = collections.defaultdict(int)
-            held.update((name, int(value, 16)) for name, value in (line.rsplit(" ", 1) for line in lines) if name[0] in "xsp" and not name.startswith("p "))
+            held.update((name, int(value, 16))
+                        for name, value in (line.rsplit(" ", 1) for line in lines)
+                        if name[0] in "xsp" and not name.startswith("p "))
             yield held
 
     def read_deliveries(self, polls: list[int]) -> None:
@@ -236,7 +256,8 @@ class Signals:
                     held &= ~(1 << signal)
 
     def frame(self, count: int, sp: int, size: int) -> Any:
-        """The frame below an SP at a count: its address, its signal, and the SP and PC that it saved; or None."""
+        """The frame below an SP at a count: its address, its signal, and the SP and PC that it
+        saved; or None."""
         address = (sp - size) % 2 ** 64 & ~15
         data = self.thread.memory(count, address, FRAME_BYTES)
         if len(data) < FRAME_BYTES or data[:8] not in (b"SMEFRAM1", b"SMEFRAM2"):
@@ -244,17 +265,24 @@ class Signals:
         _, held, signal, *registers = FRAME.unpack(data)
         return (address, signal, *registers[31:33]) if held == size else None
 
-    def delivery(self, count: int, before: dict[str, int], after: dict[str, int], held: int) -> Delivery | None:
+    def delivery(self, count: int, before: dict[str, int], after: dict[str, int],
+                 held: int) -> Delivery | None:
         """The handlers that begin at a count, or None."""
-        found, sp, pc, svcr = Delivery(count, before["pc"]), before["sp"], before["pc"], before["svcr"]
+        found, sp, pc, svcr = Delivery(count,
+                                       before["pc"]), before["sp"], before["pc"], before["svcr"]
         found.signals = []
         while True:
             length = self.svl if svcr & 1 else self.vl
-            frame = self.frame(count + 1, sp, 368 + 34 * length + (self.svl ** 2 if svcr & 2 else 0))
-            if frame is None or frame[2:] != (sp, pc) or not held >> frame[1] & 1 or frame[1] in found.signals:
+            frame = self.frame(count + 1, sp,
+                               368 + 34 * length + (self.svl ** 2 if svcr & 2 else 0))
+            if (frame is None or frame[2:] != (sp, pc) or not held >> frame[1] & 1
+                    or frame[1] in found.signals):
                 break
-            # one that stood there before, of a delivery at the same place, is none where the next instruction follows
-            if frame == self.frame(count, sp, 368 + 34 * length + (self.svl ** 2 if svcr & 2 else 0)) and after["sp"] == sp:
+            # one that stood there before, of a delivery at the same place, is none where the next
+            # instruction follows
+            if frame == self.frame(count, sp,
+                                   368 + 34 * length
+                                   + (self.svl ** 2 if svcr & 2 else 0)) and after["sp"] == sp:
                 break
             address, signal = frame[:2]
             pc, sp, svcr = self.handler(signal, count), address, 0
@@ -264,14 +292,16 @@ class Signals:
 
     def handler(self, signal: int, count: int) -> int:
         """The address of a signal's handler at a count."""
-        return next((address for at, number, address in reversed(self.handlers) if at < count and number == signal), 0)
+        return next((address for at, number, address in reversed(self.handlers)
+                     if at < count and number == signal), 0)
 
 
 # calls
 
 
 class Calls:
-    """The instructions that a thread executed, by the calls that led to them. A node is a call at a place within another one; node 0 is the start."""
+    """The instructions that a thread executed, by the calls that led to them. A node is a call at a
+    place within another one; node 0 is the start."""
 
     def __init__(self, entry: int) -> None:
         self.parents, self.entries, self.numbers, self.depths = [0], [entry], [1], [0]
@@ -392,7 +422,8 @@ def texts_of_run(words: list[str], end: int) -> dict[int, str]:
     return {int(line[:16], 16): line[17:].decode() for line in lines}
 
 
-def follow(program: str, report: str, number: int, texts: dict[int, str], show: Callable[..., Any] | None = None) -> tuple[recorded.Recorded, Calls, Signals]:
+def follow(program: str, report: str, number: int, texts: dict[int, str],
+           show: Callable[..., Any] | None = None) -> tuple[recorded.Recorded, Calls, Signals]:
     """The calls of a thread of a report, and its signals. Refused where `debug` refuses it."""
     thread = recorded.Recorded(program, report, number)
     block = reports.read(report).threads[number]
@@ -400,12 +431,14 @@ def follow(program: str, report: str, number: int, texts: dict[int, str], show: 
     if not texts and thread.end:
         texts.update(texts_of_run(words, thread.end))
     signals = Signals(thread, block, texts)
-    kinds = {key(address): kind for address, text in texts.items() if (kind := kind_of(text, signals.are_there)) is not None}
+    kinds = {key(address): kind for address, text in texts.items()
+             if (kind := kind_of(text, signals.are_there)) is not None}
     walk = Walk(thread.state(0).pc, kinds, signals)
     handled = {count: it.first for count, it in signals.deliveries.items()}
     for order, runs in parts(words, thread.end, frozenset(kinds), handled, show):
         walk.add(order, runs)
     counted = sum(sum(own.values()) for own in walk.calls.own)
     if counted != thread.end:
-        raise emulator.Refused(f"thread {number}: {counted} instructions were found of {thread.end}", 1)
+        raise emulator.Refused(
+            f"thread {number}: {counted} instructions were found of {thread.end}", 1)
     return thread, walk.calls, signals

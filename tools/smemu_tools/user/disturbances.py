@@ -1,4 +1,5 @@
-"""Tries a run again with one thing that is not to matter: a thread moved to another core, or a signal, at one place after the other."""
+"""Tries a run again with one thing that is not to matter: a thread moved to another core, or a
+signal, at one place after the other."""
 from __future__ import annotations
 
 import concurrent.futures
@@ -36,11 +37,15 @@ def in_parallel(function: Callable[..., Any], items: Any, jobs: int) -> list[Any
 # moves
 
 
-def move_places(plans: list[list[worlds.Piece]], most: int) -> tuple[list[tuple[int, int, int]], int]:
-    """The places of plans, as many as are to be tried, spread over all of them: the plan, its piece, and the turns of it before the move."""
-    found = [(plan, at, turn) for plan, pieces in enumerate(plans) for at, piece in enumerate(pieces)
+def move_places(plans: list[list[worlds.Piece]], most: int) -> tuple[list[tuple[int, int, int]],
+                                                                     int]:
+    """The places of plans, as many as are to be tried, spread over all of them: the plan, its
+    piece, and the turns of it before the move."""
+    found = [(plan, at, turn) for plan, pieces in enumerate(plans)
+             for at, piece in enumerate(pieces)
              for turn in range(piece.turns - (piece.end == "stop"))]
-    return [found[at * len(found) // most] for at in range(most)] if len(found) > most else found, len(found)
+    return [found[at * len(found) // most]
+            for at in range(most)] if len(found) > most else found, len(found)
 
 
 def moved_plan(world: worlds.World, pieces: list[worlds.Piece], at: int, turn: int) -> str:
@@ -58,39 +63,53 @@ def moved_plan(world: worlds.World, pieces: list[worlds.Piece], at: int, turn: i
 
 
 def try_moves(world: worlds.World, plans: Any, words: Any) -> tuple[bool, list[str]]:
-    """Tries plans with a thread moved to another core, at one place after the other; tells whether something is another then, and what was not tried."""
+    """Tries plans with a thread moved to another core, at one place after the other; tells whether
+    something is another then, and what was not tried."""
     tried, number = move_places(plans, words.most)
     whole = [world.seen(pieces).text for pieces in plans]
 
     def try_one(place: tuple[int, int, int]) -> Any:
         plan, at, turn = place
         pieces = plans[plan]
-        there = world.seen([*pieces[:at], *([worlds.Piece(pieces[at].thread, turn)] if turn else [])]).blocks[pieces[at].thread]
+        there = world.seen([*pieces[:at],
+                            *([worlds.Piece(pieces[at].thread, turn)] if turn
+                              else [])]).blocks[pieces[at].thread]
         same = world.try_plan(moved_plan(world, pieces, at, turn)).text == whole[plan]
-        return there.has_za, None if same else f"    plan {plan + 1}: thread {pieces[at].thread} at count {there.count}, {there.pc:016x}"
+        return (there.has_za,
+                None if same
+                else f"    plan {plan + 1}: thread {pieces[at].thread} "
+                f"at count {there.count}, {there.pc:016x}")
 
     found = in_parallel(try_one, tried, words.jobs)
     faults = [fault for _, fault in found if fault]
-    where = f"each of {number} places" if len(tried) == number else f"{len(tried)} of {number} places"
+    where = (f"each of {number} places" if len(tried) == number
+             else f"{len(tried)} of {number} places")
     with_za = sum(has_za for has_za, _ in found)
-    print(f"moved to another core at {where}, {with_za} of them with ZA on: " + ("something is another" if faults else "all is as before"))
+    print(f"moved to another core at {where}, {with_za} of them with ZA on: "
+          + ("something is another" if faults else "all is as before"))
     show_faults(faults)
-    return bool(faults), [f"{number - len(tried)} of {number} places of a move (--most {words.most})"] if len(tried) < number else []
+    return (bool(faults),
+            [f"{number - len(tried)} of {number} places of a move (--most {words.most})"]
+            if len(tried) < number else [])
 
 
 # signals
 
 
 class Posted:
-    """Runs of a program in which a thread is given a signal at a count of instructions that is chosen, in a folder of its own."""
+    """Runs of a program in which a thread is given a signal at a count of instructions that is
+    chosen, in a folder of its own."""
 
     def __init__(self, words: Any, options: list[str], folder: str) -> None:
         self.words, self.bit, self.folder = words, 1 << words.signal, folder
-        self.options = [it for name, value in zip(options[::2], options[1::2]) if name != "--slice" for it in (name, value)]
+        self.options = [it for name, value in zip(options[::2], options[1::2]) if name != "--slice"
+                        for it in (name, value)]
         found = [line.split() for line in self.sim(1000, self.rounds(self.placement())).history]
-        posts = [(int(line[1]), int(line[3])) for line in found if line[2] == "post" and int(line[4], 16) == self.bit]
+        posts = [(int(line[1]), int(line[3])) for line in found
+                 if line[2] == "post" and int(line[4], 16) == self.bit]
         # the thread that posts the signal, and the one to which it comes
-        self.sender, self.receiver = next((it for it in posts if words.to in (None, it[1])), (None, None))
+        self.sender, self.receiver = next((it for it in posts if words.to in (None, it[1])),
+                                          (None, None))
 
     def placement(self) -> worlds.Placement:
         return worlds.Placement(self.words.threads, self.words.cores)
@@ -98,11 +117,14 @@ class Posted:
     def sim(self, polls: int, placed: Any) -> worlds.Seen:
         """What `sim` writes for a plan, with a poll after so many instructions."""
         words = self.words
-        call = [emulator.find(), "sim", words.program, "/dev/stdin", "--threads", str(words.threads), "--cores", str(words.cores), *self.options]
-        return worlds.Seen(emulator.call([*call, "--slice", str(polls)], placed.text().encode()).decode())
+        call = [emulator.find(), "sim", words.program, "/dev/stdin", "--threads",
+                str(words.threads), "--cores", str(words.cores), *self.options]
+        return worlds.Seen(emulator.call([*call, "--slice", str(polls)],
+                                         placed.text().encode()).decode())
 
     def rounds(self, placed: worlds.Placement, first: int | None = None) -> worlds.Placement:
-        """Lets all threads run on, one after the other and again, to their ends; what is left when all have stopped is skipped."""
+        """Lets all threads run on, one after the other and again, to their ends; what is left when
+        all have stopped is skipped."""
         order = sorted(range(self.words.threads), key=lambda thread: thread != first)
         for turns in [ROUND] * ROUNDS + [worlds.MOST_TURNS - 1] * 2:
             for thread in order:
@@ -111,7 +133,8 @@ class Posted:
 
     @property
     def is_own(self) -> bool:
-        """Tells whether the thread posts the signal to itself; then the slice says when it comes, and else the plan says when it is posted."""
+        """Tells whether the thread posts the signal to itself; then the slice says when it comes,
+        and else the plan says when it is posted."""
         return self.sender == self.receiver
 
     def run_at(self, count: int) -> worlds.Seen:
@@ -126,7 +149,8 @@ class Posted:
 
     def comes_at(self, seen: worlds.Seen, slice_length: int) -> int | None:
         """The count at which the signal comes in a run, or None."""
-        polls = (line.split() for line in seen.history if line.startswith(f"h {self.receiver} poll "))
+        polls = (line.split() for line in seen.history
+                 if line.startswith(f"h {self.receiver} poll "))
         found = next((at for at, poll in enumerate(polls, 1) if int(poll[6], 16) & self.bit), None)
         return None if found is None else found * slice_length
 
@@ -142,8 +166,9 @@ class Posted:
 
 
 class Place:
-    """A count at which the signal came: the place that is interrupted, what the handler did not leave as it was, and the run's end; or the thread
-    goes on there, since the signal is in its mask."""
+    """A count at which the signal came: the place that is interrupted, what the handler did not
+    leave as it was, and the run's end; or the thread goes on there, since the signal is in its
+    mask."""
 
     def __init__(self, count: int, pc: int, text: str) -> None:
         self.count, self.pc, self.text, self.waits = count, pc, text, False
@@ -152,7 +177,8 @@ class Place:
 
 
 def state_at(thread: recorded.Recorded, count: int) -> dict[str, str]:
-    """All that a handler has to leave as it was, at a count: registers and vectors of ZA by their names in a report."""
+    """All that a handler has to leave as it was, at a count: registers and vectors of ZA by their
+    names in a report."""
     return of_state(thread.state(count).registers, thread.za(count))
 
 
@@ -161,8 +187,10 @@ def of_state(registers: dict[str, str], za: dict[int, bytes]) -> dict[str, str]:
     return {**kept, **{f"za {row}": value.hex() for row, value in za.items()}}
 
 
-def after_handler(thread: recorded.Recorded, count: int, before: dict[str, str], pc: int) -> dict[str, str] | None:
-    """The same, where the thread is again at the place that was interrupted; None where it does not come there."""
+def after_handler(thread: recorded.Recorded, count: int, before: dict[str, str],
+                  pc: int) -> dict[str, str] | None:
+    """The same, where the thread is again at the place that was interrupted; None where it does not
+    come there."""
     answers = thread.ask_at(count, [f"break {pc:#x}", "regs", "za"] * 16)
     for move, lines, za in zip(answers[::3], answers[1::3], answers[2::3]):
         registers = dict(line.rsplit(" ", 1) for line in lines)
@@ -175,8 +203,10 @@ def after_handler(thread: recorded.Recorded, count: int, before: dict[str, str],
 
 def changes_of(before: dict[str, str], after: dict[str, str]) -> list[str]:
     """What is another in a state: names, and both values of what is short."""
-    names = [name for name in [*before, *(it for it in after if it not in before)] if before.get(name) != after.get(name)]
-    return [f"{name} {before[name]} becomes {after[name]}" if name == "svcr" else name for name in names]
+    names = [name for name in [*before, *(it for it in after if it not in before)]
+             if before.get(name) != after.get(name)]
+    return [f"{name} {before[name]} becomes {after[name]}" if name == "svcr" else name
+            for name in names]
 
 
 def try_place(posted: Posted, count: int, before: Any, where: str, describe: Any) -> Place | None:
@@ -197,8 +227,10 @@ def try_place(posted: Posted, count: int, before: Any, where: str, describe: Any
     return place
 
 
-def different(thread: recorded.Recorded, first: int, last: int) -> tuple[list[tuple[int, dict[Any, Any], str]], int]:
-    """The counts of a run at which the thread is in another state than at those before, with the state and the place; and how many are not."""
+def different(thread: recorded.Recorded, first: int,
+              last: int) -> tuple[list[tuple[int, dict[Any, Any], str]], int]:
+    """The counts of a run at which the thread is in another state than at those before, with the
+    state and the place; and how many are not."""
     found, met = [], set()
     for count in range(first, last + 1):
         state, where = state_at(thread, count), thread.state(count).where
@@ -215,7 +247,9 @@ def try_signal(words: Any, options: Any, describe: Any) -> int:
         posted = Posted(words, options, folder)
         first = None if posted.sender is None else posted.first()
         if first is None:
-            print(f"no thread posts signal {words.signal}" + (f" to thread {words.to}" if words.to is not None else "") + ": let it be posted by call 131")
+            print(f"no thread posts signal {words.signal}"
+                  + (f" to thread {words.to}" if words.to is not None else "")
+                  + ": let it be posted by call 131")
             return 1
         base = posted.run_at(first + words.most - 1)
         if not base.is_done:
@@ -224,7 +258,10 @@ def try_signal(words: Any, options: Any, describe: Any) -> int:
         thread = posted.record(base, "base")
         last = min(thread.end - 1, first + words.most - 1)
         counts, alike = different(thread, first, last)
-        tried = [it for it in in_parallel(lambda it: try_place(posted, it[0], it[1], it[2], describe), counts, words.jobs) if it]
+        tried = [it
+                 for it
+                 in in_parallel(lambda it: try_place(posted, it[0], it[1], it[2], describe), counts,
+                                words.jobs) if it]
         is_cut = thread.end - 1 > last
         return show_signal(words, posted, tried, alike, is_cut)
 
@@ -236,16 +273,23 @@ def show_signal(words: Any, posted: Posted, tried: Any, alike: int, is_cut: bool
     how = "by --slice" if posted.is_own else f"posted by thread {posted.sender}"
     print(f"signal {words.signal} comes to thread {posted.receiver} at {len(tried)} places, {how}"
           + (f"; {alike} more have the registers and ZA of one of these" if alike else ""))
-    faults, waits = [place for place in tried if place.changed], [place for place in tried if place.waits]
-    print(f"  after the handler all is as before at {len(tried) - len(faults) - len(waits)} places, not at {len(faults)}")
+    faults, waits = [place for place in tried if place.changed], [place for place in tried
+                                                                  if place.waits]
+    print(f"  after the handler all is as before "
+          f"at {len(tried) - len(faults) - len(waits)} places, not at {len(faults)}")
     if waits:
-        print(f"  at {len(waits)} places it is in the mask, and comes later (the first at count {waits[0].count})")
-    show_faults([f"    count {place.count} {known.text(place.pc)}: {place.text}: {', '.join(place.changed)}" for place in faults])
+        print(f"  at {len(waits)} places it is in the mask, and comes later "
+              f"(the first at count {waits[0].count})")
+    show_faults(
+        [f"    count {place.count} {known.text(place.pc)}: {place.text}: {', '.join(place.changed)}"
+         for place in faults])
     ends = {}
     for place in tried:
         ends.setdefault(place.end, []).append(place.count)
     for end, counts in ends.items():
-        print(f"  {len(counts)} end so: {end}" + (f" (the first at count {counts[0]})" if len(ends) > 1 else ""))
+        print(f"  {len(counts)} end so: {end}"
+              + (f" (the first at count {counts[0]})" if len(ends) > 1 else ""))
     if is_cut:
-        print(f"not looked at: counts after the first {words.most} at which it may come (--most {words.most})")
+        print(f"not looked at: counts after the first {words.most} at which it may "
+              f"come (--most {words.most})")
     return 1 if faults or len(ends) > 1 else emulator.NOT_ALL if is_cut else 0

@@ -1,6 +1,7 @@
 """Finds the emulator and calls it, for the scripts beside it that call it many times.
 
-SMEMU in the environment names it; else it is the program that ./smemu runs here, without the wrapper's own tenth of a second.
+SMEMU in the environment names it; else it is the program that ./smemu runs here, without the
+wrapper's own tenth of a second.
 """
 from __future__ import annotations
 
@@ -35,14 +36,16 @@ def find() -> str:
     if os.environ.get("SMEMU"):
         return os.environ["SMEMU"]
     # the wrapper unpacks or builds it where that is still to be done, and says so
-    asked = subprocess.run([TOP / "smemu", "--which"], stdin=subprocess.DEVNULL, stdout=subprocess.PIPE, text=True)
+    asked = subprocess.run([TOP / "smemu", "--which"], stdin=subprocess.DEVNULL,
+                           stdout=subprocess.PIPE, text=True)
     if asked.returncode:
         sys.exit(asked.returncode)
     return asked.stdout.rstrip("\n")
 
 
 def call(words: list[Any], given: bytes = b"", is_over: Callable[..., Any] | None = None) -> bytes:
-    """What the emulator writes for these words, of which /dev/stdin is a file with `given`, or Refused. Where `is_over` comes to say so, Interrupted."""
+    """What the emulator writes for these words, of which /dev/stdin is a file with `given`, or
+    Refused. Where `is_over` comes to say so, Interrupted."""
     with tempfile.NamedTemporaryFile(prefix="smemu-") as source:
         # a name of its own, since /dev/stdin leads through /proc, which a root may lack
         source.write(given)
@@ -51,8 +54,10 @@ def call(words: list[Any], given: bytes = b"", is_over: Callable[..., Any] | Non
         process = subprocess.Popen(names, stdin=subprocess.DEVNULL, stdout=subprocess.PIPE)
         written = output_of(process, is_over)
     if process.returncode:
-        text = written.decode(errors="replace").strip() if process.returncode != 8 else "there is no memory left"
-        raise Refused(text or f"the emulator ended with status {process.returncode}", process.returncode)
+        text = (written.decode(errors="replace").strip() if process.returncode != 8
+                else "there is no memory left")
+        raise Refused(text or f"the emulator ended with status {process.returncode}",
+                      process.returncode)
     return written
 
 
@@ -72,7 +77,8 @@ def output_of(process: subprocess.Popen[Any], is_over: Callable[..., Any] | None
 
 
 def end_with(main: Callable[..., Any]) -> None:
-    """Ends the script with the status of its main function; a refusal is told by its own line, with its status, and a closed pipe is no fault."""
+    """Ends the script with the status of its main function; a refusal is told by its own line, with
+    its status, and a closed pipe is no fault."""
     try:
         status = main()
         sys.stdout.flush()

@@ -1,13 +1,16 @@
-"""Runs a program as a program, for scripts and build systems: its output is the output, its exit status the status.
+"""Runs a program as a program, for scripts and build systems: its output is the output, its exit
+status the status.
 
     smemu exec [OPTIONS] PROGRAM [OPTIONS]
 
-The options are those of `smemu run`: --vl, --svl, --slice, --budget, --threads, --cores, each with a value, before the program or after it. Other
-words after the program are refused, since a guest has no arguments. A build system that puts the program behind the words that it is told takes
-`smemu exec --svl 512` as it is.
+The options are those of `smemu run`: --vl, --svl, --slice, --budget, --threads, --cores, each with
+a value, before the program or after it. Other words after the program are refused, since a guest
+has no arguments. A build system that puts the program behind the words that it is told takes `smemu
+exec --svl 512` as it is.
 
-The outputs of several threads stand one after the other, and the status is that of the first thread whose status is not 0. Where a thread does not
-exit, or nothing is run, it is 125, and on standard error stands each such thread with its stop, or the refusal. SMEMU may name the emulator.
+The outputs of several threads stand one after the other, and the status is that of the first thread
+whose status is not 0. Where a thread does not exit, or nothing is run, it is 125, and on standard
+error stands each such thread with its stop, or the refusal. SMEMU may name the emulator.
 """
 from __future__ import annotations
 
@@ -30,7 +33,8 @@ class NoWords(Exception):
 
 
 def parse(words: list[str]) -> tuple[str | None, list[str]]:
-    """The program, and the options with their values in the order in which they stand before it and after it."""
+    """The program, and the options with their values in the order in which they stand before it and
+    after it."""
     program, options, rest = None, [], list(words)
     while rest:
         word = rest.pop(0)
@@ -41,9 +45,11 @@ def parse(words: list[str]) -> tuple[str | None, list[str]]:
         elif word in ("-h", "--help") and program is None:
             return None, []
         elif program is not None:
-            raise NoWords(f"{word}: a guest has no arguments, so after the program only options may stand: {' '.join(OPTIONS)}")
+            raise NoWords(f"{word}: a guest has no arguments, so after the "
+                          f"program only options may stand: {' '.join(OPTIONS)}")
         elif word.startswith("-"):
-            raise NoWords(f"{word} is no option: {' '.join(OPTIONS)}; of a file of that name write ./{word}")
+            raise NoWords(
+                f"{word} is no option: {' '.join(OPTIONS)}; of a file of that name write ./{word}")
         else:
             program = word
     if program is None:
@@ -55,7 +61,8 @@ def run(words: list[str]) -> tuple[str, int]:
     """What the emulator writes of these words after `run`, and its status."""
     try:
         # the wrapper's own words are for a person at a terminal
-        ended = subprocess.run([SMEMU, "run", *words], stdout=subprocess.PIPE, env={**os.environ, "SMEMU_QUIET": "1"})
+        ended = subprocess.run([SMEMU, "run", *words], stdout=subprocess.PIPE,
+                               env={**os.environ, "SMEMU_QUIET": "1"})
     except OSError as fault:
         return f"{SMEMU}: {fault.strerror}", NOT_RUN
     return ended.stdout.decode(errors="replace"), ended.returncode
@@ -90,4 +97,5 @@ def main() -> int:
     unended = [thread for thread in threads if thread.stop.status is None]
     for thread in unended:
         print(f"thread {thread.number} stop {thread.stop}", file=sys.stderr)
-    return NOT_RUN if unended else next((thread.stop.status for thread in threads if thread.stop.status), 0)
+    return NOT_RUN if unended else next((thread.stop.status for thread in threads
+                                         if thread.stop.status), 0)

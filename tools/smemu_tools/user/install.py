@@ -5,15 +5,15 @@
 
 What goes where:
 
-    bin/smemu                    the command, a link to the wrapper
-    lib/smemu/                   the wrapper, the program, the scripts, and `files`, which lists all of these
-    share/man/man1/              smemu.1, and smemu-scripts.1 of the scripts
-    share/doc/smemu/             the pages of docs/
+    bin/smemu                    the command, a link to the wrapper lib/smemu/                   the
+    wrapper, the program, the scripts, and `files`, which lists all of these share/man/man1/
+    smemu.1, and smemu-scripts.1 of the scripts share/doc/smemu/             the pages of docs/
     share/bash-completion/completions/smemu, share/zsh/site-functions/_smemu,
     share/fish/vendor_completions.d/smemu.fish
 
-No file there names the folder, so it may be packed, and unpacked elsewhere. An installation that stands
-there already is replaced; a file of that name that none has put there is not, and nothing is installed.
+No file there names the folder, so it may be packed, and unpacked elsewhere. An installation that
+stands there already is replaced; a file of that name that none has put there is not, and nothing is
+installed.
 """
 from __future__ import annotations
 
@@ -31,7 +31,8 @@ from smemu_tools.user import completions, emulator, manual
 
 HOME = "lib/smemu"
 LIST = f"{HOME}/files"
-COMPLETIONS = {"bash": "share/bash-completion/completions/smemu", "zsh": "share/zsh/site-functions/_smemu",
+COMPLETIONS = {"bash": "share/bash-completion/completions/smemu",
+               "zsh": "share/zsh/site-functions/_smemu",
                "fish": "share/fish/vendor_completions.d/smemu.fish"}
 PAGES = "share/doc/smemu"
 
@@ -41,12 +42,14 @@ class Fault(Exception):
 
 
 def contents(program: pathlib.Path) -> dict[str, Any]:
-    """Each file of an installation with what it is: bytes, a file that is copied, or the target of a link."""
+    """Each file of an installation with what it is: bytes, a file that is copied, or the target of
+    a link."""
     verbs = completions.table()
     copied: dict[str, Any] = {f"{HOME}/smemu": TOP / "smemu", f"{HOME}/smemu_cli": program}
     copied[f"{HOME}/tools/smemu-tools"] = TOOL
     package = TOP / "tools" / "smemu_tools"
-    scripts = [*package.glob("*.py"), *(package / "user").glob("*.py"), *(package / "user" / "page").iterdir()]
+    scripts = [*package.glob("*.py"), *(package / "user").glob("*.py"),
+               *(package / "user" / "page").iterdir()]
     copied.update((f"{HOME}/tools/{it.relative_to(TOP / 'tools')}", it) for it in sorted(scripts))
     copied.update((f"{PAGES}/{it.name}", it) for it in sorted((TOP / "docs").glob("*.md")))
     made = {path: completions.written(shell, verbs).encode() for shell, path in COMPLETIONS.items()}
@@ -99,7 +102,8 @@ def install(prefix: pathlib.Path, program: pathlib.Path) -> int:
     put(prefix / LIST, "".join(f"{name}\n" for name in [*kept, *inside, *files, LIST]).encode())
     for name, content in files.items():
         put(prefix / name, content)
-    remove(prefix, [name for name in before if name not in files and name != LIST and name[-1] != "/"])
+    remove(prefix,
+           [name for name in before if name not in files and name != LIST and name[-1] != "/"])
     return len(files) + 1
 
 
@@ -125,18 +129,21 @@ def uninstall(prefix: pathlib.Path) -> int:
 
 def say_paths(prefix: pathlib.Path) -> None:
     """Says where a shell does not look."""
-    folders = [pathlib.Path(it).resolve() for it in os.environ.get("PATH", "").split(os.pathsep) if it]
+    folders = [pathlib.Path(it).resolve() for it in os.environ.get("PATH", "").split(os.pathsep)
+               if it]
     if (prefix / "bin").resolve() not in folders:
         print(f"PATH does not name {prefix / 'bin'}, where the command is")
 
 
 def main() -> int:
-    words = argparse.ArgumentParser(prog="smemu", description=__doc__, formatter_class=argparse.RawDescriptionHelpFormatter)
+    words = argparse.ArgumentParser(prog="smemu", description=__doc__,
+                                    formatter_class=argparse.RawDescriptionHelpFormatter)
     words.add_argument("what", choices=("install", "uninstall"))
     words.add_argument("prefix", nargs="?", type=pathlib.Path, metavar="PREFIX")
     asked = words.parse_args()
     is_installed = (TOP / "files").is_file()
-    prefix = asked.prefix or (TOP.parent.parent if is_installed and asked.what == "uninstall" else None)
+    prefix = asked.prefix or (TOP.parent.parent if is_installed and asked.what == "uninstall"
+                              else None)
     if is_installed and asked.what == "install":
         words.error("--install is a word of ./smemu in the repository, and this is an installation")
     if prefix is None:

@@ -1,5 +1,5 @@
-"""Writes the manual page of smemu, of what `--help` says and of docs/COMMAND.md, or that of the scripts, of
-what the help of each says.
+"""Writes the manual page of smemu, of what `--help` says and of docs/COMMAND.md, or that of the
+scripts, of what the help of each says.
 
     tools/smemu-tools manual [--scripts] > smemu.1; man ./smemu.1
 
@@ -27,11 +27,14 @@ def plain(text: str) -> str:
 
 
 def formatted(text: str) -> str:
-    """A line of Markdown: code is bold, and of a link its words stand, with the page that it leads to."""
+    """A line of Markdown: code is bold, and of a link its words stand, with the page that it leads
+    to."""
     text = re.sub(r"\[([^]]*)\]\(#[^)]*\)", r"\1", text)
-    text = re.sub(r"\[([^]]*)\]\((?:\.\./)*([^)#]*)[^)]*\)", lambda it: it[1] if it[1].endswith(it[2]) else f"{it[1]} ({it[2]})", text)
+    text = re.sub(r"\[([^]]*)\]\((?:\.\./)*([^)#]*)[^)]*\)", lambda it: it[1]
+                  if it[1].endswith(it[2]) else f"{it[1]} ({it[2]})", text)
     parts = re.split(r"`([^`]*)`", text)
-    return "".join(rf"\fB{plain(part)}\fR" if odd % 2 else plain(part) for odd, part in enumerate(parts) if part)
+    return "".join(rf"\fB{plain(part)}\fR" if odd % 2 else plain(part)
+                   for odd, part in enumerate(parts) if part)
 
 
 def cells(row: str) -> list[str]:
@@ -39,13 +42,15 @@ def cells(row: str) -> list[str]:
 
 
 def table(rows: list[str]) -> Iterator[str]:
-    """A table of two columns is a list of tags with what they are; a wider one is laid out by tbl."""
+    """A table of two columns is a list of tags with what they are; a wider one is laid out by
+    tbl."""
     head, body = cells(rows[0]), [cells(row) for row in rows[2:]]
     if len(head) == 2:
         for tag, text in body:
             yield from (".TP", formatted(tag), formatted(text))
         return
-    yield from (".TS", "box;", " ".join(["lb"] * len(head)), " ".join(["l"] * (len(head) - 1) + ["lx"]) + ".")
+    yield from (".TS", "box;", " ".join(["lb"] * len(head)),
+                " ".join(["l"] * (len(head) - 1) + ["lx"]) + ".")
     yield "\t".join(map(formatted, head))
     yield "_"
     for row in body:
@@ -72,12 +77,14 @@ def page(text: str) -> Iterator[str]:
 def head(name: str, text: str) -> list[str]:
     """What a page begins with: the program's version, its name, and what it does."""
     version = said(SMEMU, "--version").strip()
-    return ["'\\\" t", f'.TH {name.upper()} 1 "" "{version}"', ".SH NAME", f"{name} \\- {plain(text)}"]
+    return ["'\\\" t", f'.TH {name.upper()} 1 "" "{version}"', ".SH NAME",
+            f"{name} \\- {plain(text)}"]
 
 
 def said(*words: str) -> str:
     environment = {**os.environ, "COLUMNS": "80"}
-    return subprocess.run(words, check=True, stdout=subprocess.PIPE, text=True, env=environment).stdout
+    return subprocess.run(words, check=True, stdout=subprocess.PIPE, text=True,
+                          env=environment).stdout
 
 
 def of_command() -> str:
@@ -87,7 +94,8 @@ def of_command() -> str:
     lines = [*head("smemu", first[len("smemu "):].rstrip(".")), ".SH SYNOPSIS", ".nf",
              *(f"\\fBsmemu\\fR {plain(line)}" for line in words), ".fi",
              ".SH SUMMARY", ".EX", *map(plain, rest.rstrip().split("\n")), ".EE"]
-    text = (TOP / "docs" / "COMMAND.md").read_text().replace("# The command\n", "# Description\n", 1)
+    text = (TOP / "docs" / "COMMAND.md").read_text().replace("# The command\n", "# Description\n",
+                                                             1)
     lines += [*page(text), ".SH SEE ALSO", r"\fBsmemu\-scripts\fR(1)"]
     return "\n".join(lines) + "\n"
 
@@ -95,7 +103,8 @@ def of_command() -> str:
 def of_scripts() -> str:
     """The page of the scripts: what the help of each says."""
     lines = [*head("smemu-scripts", "the words of smemu that are scripts"), ".SH DESCRIPTION",
-             "These words of", r"\fBsmemu\fR(1)", "are scripts, which ask its commands. No theorem covers them."]
+             "These words of", r"\fBsmemu\fR(1)",
+             "are scripts, which ask its commands. No theorem covers them."]
     for verb in verbs.SCRIPTS:
         help_lines = said(sys.executable, str(TOOL), verb, "--help").rstrip().split("\n")
         lines += [f".SH {plain(verb.upper())}", ".EX", *map(plain, help_lines), ".EE"]

@@ -1,15 +1,19 @@
-"""Says where the instructions of a recorded run went: how many each function, source line and address executed, and by which calls.
+"""Says where the instructions of a recorded run went: how many each function, source line and
+address executed, and by which calls.
 
     smemu profile PROGRAM REPORT [THREAD] [--by function|line|address] [--most N]
     smemu profile PROGRAM REPORT [THREAD] --never | --lcov
     smemu profile PROGRAM REPORT [THREAD] --folded | --callgrind | --page
     smemu profile PROGRAM REPORT [THREAD] --trace FIRST-LAST
 
-All threads are counted together, or the one that is named. Without --by it is the functions and, of a program that was compiled with -g, the lines;
---most N shows the first N of each, 20 where nothing is said and all with 0. --never lists the functions and lines of which no instruction was executed;
---lcov writes all lines with their counts in the format of lcov. --folded writes each stack of functions with its count, as flame graph scripts read it,
---callgrind a file for KCachegrind or callgrind_annotate, --page a page with a flame graph and the source lines.
---trace shows the instructions of one thread from a count to another, each with what it changed. SMEMU may name the emulator.
+All threads are counted together, or the one that is named. Without --by it is the functions and, of
+a program that was compiled with -g, the lines; --most N shows the first N of each, 20 where nothing
+is said and all with 0. --never lists the functions and lines of which no instruction was executed;
+--lcov writes all lines with their counts in the format of lcov. --folded writes each stack of
+functions with its count, as flame graph scripts read it, --callgrind a file for KCachegrind or
+callgrind_annotate, --page a page with a flame graph and the source lines. --trace shows the
+instructions of one thread from a count to another, each with what it changed. SMEMU may name the
+emulator.
 """
 from __future__ import annotations
 
@@ -28,12 +32,16 @@ NO_LINE = "no line"
 
 
 def named_functions(image: bytes) -> set[int]:
-    """The addresses of the symbols that are functions, or that other files may name: a label within a function is neither."""
+    """The addresses of the symbols that are functions, or that other files may name: a label within
+    a function is neither."""
     start, = struct.unpack_from("<Q", image, 40)
     _, number = struct.unpack_from("<HH", image, 58)
-    sections = [struct.unpack_from("<IIQQQQ", image, start + 64 * at) for at in range(number if start else 0)]
-    symbols = [struct.unpack_from("<IBBHQQ", image, at) for _, kind, _, _, offset, size in sections if kind == 2 for at in range(offset, offset + size, 24)]
-    return {value for _, info, _, section, value, _ in symbols if section and (info & 15 == 2 or info >> 4 and info & 15 == 0)}
+    sections = [struct.unpack_from("<IIQQQQ", image, start + 64 * at)
+                for at in range(number if start else 0)]
+    symbols = [struct.unpack_from("<IBBHQQ", image, at) for _, kind, _, _, offset, size in sections
+               if kind == 2 for at in range(offset, offset + size, 24)]
+    return {value for _, info, _, section, value, _ in symbols
+            if section and (info & 15 == 2 or info >> 4 and info & 15 == 0)}
 
 
 class Code:
@@ -46,9 +54,11 @@ class Code:
         self.known = places.Places(program, is_whole=True)
 
     def find_functions(self, entries: Iterator[Any] | set[int] | tuple[Any, ...] = ()) -> None:
-        """Leaves of the names those of functions: such symbols, the entry, and what is called. Where there are no names it is their addresses."""
+        """Leaves of the names those of functions: such symbols, the entry, and what is called.
+        Where there are no names it is their addresses."""
         image = pathlib.Path(self.program).read_bytes()
-        called = {address + int(text[4:]) for address, text in self.texts.items() if text.startswith("bl .")}
+        called = {address + int(text[4:]) for address, text in self.texts.items()
+                  if text.startswith("bl .")}
         called.update(struct.unpack_from("<Q", image, 24), entries)
         if self.known.functions:
             kept = named_functions(image) | called
@@ -155,11 +165,15 @@ def tables(code: Any, counts: Any, words: Any) -> Iterator[str]:
 
     def line_name(key: tuple[tuple[str, int], str]) -> str:
         line, function = key
-        return f"{short(line)} {function}: {sources.text(line)}".rstrip(": ") if line[0] else f"{NO_LINE} {function}"
+        return (f"{short(line)} {function}: {sources.text(line)}".rstrip(": ") if line[0]
+                else f"{NO_LINE} {function}")
 
     def address_name(address: int) -> str:
         line = code.line(address)
-        return " ".join(it for it in (f"{address:016x}", code.function(address), short(line) if line else "") if it) + f": {code.texts[address]}"
+        return " ".join(it
+                        for it
+                        in (f"{address:016x}", code.function(address), short(line) if line else "")
+                        if it) + f": {code.texts[address]}"
 
     if words.by in (None, "function"):
         yield from table("by function", by_function(code, counts), words.most, str)
@@ -201,7 +215,8 @@ def never(code: Any, counts: Any) -> Iterator[str]:
 
 
 def lcov(code: Any, counts: Any) -> Iterator[str]:
-    """The lines of a file of lcov: a line's count is that of its instruction that was executed most often."""
+    """The lines of a file of lcov: a line's count is that of its instruction that was executed most
+    often."""
     files = collections.defaultdict(dict)
     for (file, number), held in code.lines().items():
         files[file][number] = max(counts.get(it, 0) for it in held)
@@ -217,14 +232,16 @@ def lcov(code: Any, counts: Any) -> Iterator[str]:
         yield from (f"FNDA:{count},{name}" for _, name, count in here)
         yield from (f"FNF:{len(here)}", f"FNH:{sum(count > 0 for _, _, count in here)}")
         yield from (f"DA:{number},{count}" for number, count in sorted(lines.items()))
-        yield from (f"LF:{len(lines)}", f"LH:{sum(count > 0 for count in lines.values())}", "end_of_record")
+        yield from (f"LF:{len(lines)}", f"LH:{sum(count > 0 for count in lines.values())}",
+                    "end_of_record")
 
 
 # stacks
 
 
 def stacks(code: Code, runs: list[tuple[int, counted.Calls]]) -> dict[tuple[str, ...], int]:
-    """The count of each stack of functions, outermost first; of several threads the thread stands before it."""
+    """The count of each stack of functions, outermost first; of several threads the thread stands
+    before it."""
     found = collections.Counter()
     for number, calls in runs:
         for node, own in enumerate(calls.own):
@@ -238,12 +255,14 @@ def stacks(code: Code, runs: list[tuple[int, counted.Calls]]) -> dict[tuple[str,
 def folded(code: Any, runs: Any) -> Iterator[str]:
     """A line for each stack."""
     clean = lambda name: name.replace(";", ":")
-    yield from sorted(f"{';'.join(map(clean, stack))} {count}" for stack, count in stacks(code, runs).items())
+    yield from sorted(f"{';'.join(map(clean, stack))} {count}"
+                      for stack, count in stacks(code, runs).items())
 
 
 def callgrind(code: Any, runs: Any, program: Any) -> Iterator[str]:
     """The lines of a file in callgrind's format, version 1."""
-    own, calls = collections.defaultdict(collections.Counter), collections.defaultdict(lambda: collections.defaultdict(lambda: [0, 0]))
+    own, calls = collections.defaultdict(collections.Counter), collections.defaultdict(
+        lambda: collections.defaultdict(lambda: [0, 0]))
     for _, held in runs:
         whole = held.whole()
         for node, counts in enumerate(held.own):
@@ -254,9 +273,11 @@ def callgrind(code: Any, runs: Any, program: Any) -> Iterator[str]:
                 entry_of_call = calls[code.function(site)][site, entry]
                 entry_of_call[0] += held.numbers[node]
                 entry_of_call[1] += whole[node]
-    files = {name: next((line[0] for line in map(code.line, held) if line), "???") for name, held in code.functions().items()}
+    files = {name: next((line[0] for line in map(code.line, held) if line), "???")
+             for name, held in code.functions().items()}
     place = lambda address: code.line(address) or (files[code.function(address)], 0)
-    yield from ("# callgrind format", "version: 1", "creator: smemu profile", f"cmd: {program}", "positions: instr line", "events: Instructions",
+    yield from ("# callgrind format", "version: 1", "creator: smemu profile", f"cmd: {program}",
+                "positions: instr line", "events: Instructions",
                 f"summary: {sum(sum(it.values()) for it in own.values())}", "", f"ob={program}")
     for name in sorted(set(own) | set(calls)):
         first = min([*own[name], *(site for site, _ in calls[name])])
@@ -273,7 +294,10 @@ def callgrind(code: Any, runs: Any, program: Any) -> Iterator[str]:
             if here != file:
                 file = here
                 yield f"fi={file}"
-            yield from (f"cob={program}", f"cfi={files[code.function(entry)]}", f"cfn={code.function(entry)}", f"calls={times} {entry:#x} {place(entry)[1]}", f"{site:#x} {number} {inclusive}")
+            yield from (f"cob={program}", f"cfi={files[code.function(entry)]}",
+                        f"cfn={code.function(entry)}",
+                        f"calls={times} {entry:#x} {place(entry)[1]}",
+                        f"{site:#x} {number} {inclusive}")
         yield ""
 
 
@@ -281,22 +305,28 @@ def callgrind(code: Any, runs: Any, program: Any) -> Iterator[str]:
 
 
 def arguments() -> argparse.Namespace:
-    parser = argparse.ArgumentParser(description=__doc__.splitlines()[0])
+    parser = argparse.ArgumentParser(description=__doc__.partition("\n\n")[0])
     parser.add_argument("program", metavar="PROGRAM")
     parser.add_argument("report", metavar="REPORT")
     parser.add_argument("thread", metavar="THREAD", type=int, nargs="?")
     parser.add_argument("--by", choices=("function", "line", "address"))
-    parser.add_argument("--most", type=int, default=MOST, metavar="N", help="show the first N of each table; all of them with 0 (20)")
+    parser.add_argument("--most", type=int, default=MOST, metavar="N",
+                        help="show the first N of each table; all of them with 0 (20)")
     form = parser.add_mutually_exclusive_group()
-    for name, text in (("never", "the functions and lines of which no instruction was executed"), ("lcov", "all lines with their counts, in lcov's format"),
-                       ("folded", "stacks, as flame graph scripts read them"), ("callgrind", "a file for KCachegrind"),
+    for name, text in (("never", "the functions and lines of which no instruction was executed"),
+                       ("lcov", "all lines with their counts, in lcov's format"),
+                       ("folded", "stacks, as flame graph scripts read them"),
+                       ("callgrind", "a file for KCachegrind"),
                        ("page", "a flame graph and the source lines as one page")):
         form.add_argument(f"--{name}", action="store_true", help=text)
-    form.add_argument("--trace", metavar="FIRST-LAST", type=between, help="each instruction from a count to another, with what it changed")
+    form.add_argument("--trace", metavar="FIRST-LAST", type=between,
+                      help="each instruction from a count to another, with what it changed")
     words = parser.parse_args()
     if words.most < 0:
         parser.error("--most is 0 or more")
-    if words.by and (words.trace or any(getattr(words, name) for name in ("never", "lcov", "folded", "callgrind", "page"))):
+    if words.by and (words.trace
+                     or any(getattr(words, name)
+                            for name in ("never", "lcov", "folded", "callgrind", "page"))):
         parser.error("--by is for the tables alone")
     return words
 
@@ -311,7 +341,8 @@ def between(text: str) -> tuple[int, int]:
 
 def title(total: int, numbers: list[int]) -> str:
     """How many instructions these are, and of which threads."""
-    return f"instructions {total}, of " + (f"thread {numbers[0]}" if len(numbers) == 1 else f"threads {numbers[0]} to {numbers[-1]}")
+    return f"instructions {total}, of " + (f"thread {numbers[0]}" if len(numbers) == 1
+                                           else f"threads {numbers[0]} to {numbers[-1]}")
 
 
 def threads_of(report: reports.Report, asked: int | None) -> tuple[list[int], dict[int, int]]:
@@ -331,12 +362,14 @@ def main() -> int:
             raise emulator.Refused("--trace goes over one thread: name it after the report", 2)
         return traced.show(words.program, words.report, numbers[0], code, *words.trace)
     if not code.is_listed and (words.never or words.lcov):
-        raise emulator.Refused("the program has no section table, so its instructions are not known before they are executed", 2)
+        raise emulator.Refused("the program has no section table, so its instructions "
+                               "are not known before they are executed", 2)
     told, runs, total = progress.Progress(), [], sum(there[it] for it in numbers)
     for number in numbers:
         before = sum(calls_of.total for _, calls_of in runs)
         show = lambda count: told.show(f"instruction {before + count} of {total}")
-        runs.append((number, counted.follow(words.program, words.report, number, code.texts, show)[1]))
+        runs.append((number,
+                     counted.follow(words.program, words.report, number, code.texts, show)[1]))
     told.clear()
     code.find_functions(it for _, calls in runs for it in calls.entries)
     code.learn_lines()
@@ -350,7 +383,8 @@ def main() -> int:
     elif words.callgrind:
         lines = callgrind(code, runs, words.program)
     elif words.page:
-        lines = [profile_page.page(code, counts, stacks(code, runs), Sources(), title(total, numbers))]
+        lines = [profile_page.page(code, counts, stacks(code, runs), Sources(),
+                                   title(total, numbers))]
     else:
         lines = [title(total, numbers), *tables(code, counts, words)]
     for line in lines:

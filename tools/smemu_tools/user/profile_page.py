@@ -1,6 +1,7 @@
 """Makes one HTML file of a profile: `smemu profile --page` calls it.
 
-The functions and the source lines stand in the file as they are; the flame graph is drawn by page/profile.js. Nothing is fetched from elsewhere.
+The functions and the source lines stand in the file as they are; the flame graph is drawn by
+page/profile.js. Nothing is fetched from elsewhere.
 """
 from __future__ import annotations
 
@@ -13,14 +14,16 @@ from typing import Any, Iterator
 PARTS = pathlib.Path(__file__).resolve().parent / "page"
 # stacks with a lesser part of all instructions are left out of the graph
 LEAST_PART = 10_000
-# the lines of a file, and the instructions of functions that have no lines, that are in the page at most
+# the lines of a file, and the instructions of functions that have no lines, that are in the page at
+# most
 MOST_LINES = 20_000
 # lines without code around those with code
 AROUND = 2
 
 
 def tree(stacks: dict[tuple[str, ...], int]) -> list[int | list[list[int | list[Any] | str]] | str]:
-    """The stacks as a tree: of each function its name, its own instructions, those with all that it called, and these."""
+    """The stacks as a tree: of each function its name, its own instructions, those with all that it
+    called, and these."""
     top: list[Any] = ["all", 0, 0, {}]
     for stack, count in stacks.items():
         here = top
@@ -35,7 +38,8 @@ def tree(stacks: dict[tuple[str, ...], int]) -> list[int | list[list[int | list[
 def pruned(node: Any, least: int) -> list[int | list[list[int | list[Any] | str]] | str]:
     """A tree without what is less than so many instructions, as lists."""
     name, own, whole, below = node
-    return [name, own, whole, [pruned(it, least) for _, it in sorted(below.items()) if it[2] >= least]]
+    return [name, own, whole,
+            [pruned(it, least) for _, it in sorted(below.items()) if it[2] >= least]]
 
 
 def function_rows(stacks: dict[tuple[str, ...], int]) -> list[tuple[str, int, int]]:
@@ -44,7 +48,8 @@ def function_rows(stacks: dict[tuple[str, ...], int]) -> list[tuple[str, int, in
     for stack, count in stacks.items():
         own[stack[-1]] += count
         whole.update({name: count for name in set(stack)})
-    return sorted(((name, own[name], count) for name, count in whole.items()), key=lambda it: (-it[1], -it[2], it[0]))
+    return sorted(((name, own[name], count) for name, count in whole.items()),
+                  key=lambda it: (-it[1], -it[2], it[0]))
 
 
 def share(count: int, total: int) -> str:
@@ -52,8 +57,10 @@ def share(count: int, total: int) -> str:
 
 
 def function_table(stacks: dict[tuple[str, ...], int], total: int) -> str:
-    rows = "".join(f'<tr><td class="number">{own:,}</td><td class="number">{share(own, total)}</td><td class="number">{whole:,}</td>'
-                   f'<td class="number">{share(whole, total)}</td><td>{html.escape(name)}</td></tr>' for name, own, whole in function_rows(stacks))
+    rows = "".join(f'<tr><td class="number">{own:,}</td><td '
+                   f'class="number">{share(own, total)}</td><td class="number">{whole:,}</td>'
+                   f'<td class="number">{share(whole, total)}</td><td>{html.escape(name)}</td></tr>'
+                   for name, own, whole in function_rows(stacks))
     return ('<section id="functions"><h2>Functions</h2><div class="wide"><table><thead><tr><th class="number" colspan="2">its own</th>'
             f'<th class="number" colspan="2">with its calls</th><th>function</th></tr></thead><tbody>{rows}</tbody></table></div></section>')
 
@@ -68,24 +75,30 @@ def line_rows(numbered: Any, most: int) -> Iterator[str]:
     for number, count, text in numbered:
         kind = "plain" if count is None else "hot" if count else "never"
         told = "" if count is None else f"{count:,}"
-        yield (f'<tr class="{kind}"{heat(count, most)}><td class="number dim">{number}</td><td class="number">{told}</td>'
+        yield (f'<tr class="{kind}"{heat(count, most)}><td class="number '
+               f'dim">{number}</td><td class="number">{told}</td>'
                f'<td class="text">{html.escape(text)}</td></tr>')
 
 
 def file_lines(lines: dict[int, int], texts: list[str]) -> Iterator[tuple[int, int | None, str]]:
-    """The lines of a file from the first to the last with code, and some around them: number, count, text."""
+    """The lines of a file from the first to the last with code, and some around them: number,
+    count, text."""
     numbers = [*lines, *()]
-    for number in range(max(1, min(numbers) - AROUND), min(max(numbers) + AROUND, max(len(texts), max(numbers))) + 1):
+    for number in range(max(1, min(numbers) - AROUND),
+                        min(max(numbers) + AROUND, max(len(texts), max(numbers))) + 1):
         yield number, lines.get(number), texts[number - 1] if number <= len(texts) else ""
 
 
 def block(name: str, count: int, total: Any, rows: Iterator[Any], is_open: bool) -> str:
-    return (f'<details{" open" * is_open}><summary>{html.escape(name)} <span class="dim">{count:,} instructions, {share(count, total)}</span></summary>'
-            f'<div class="wide"><table class="source"><tbody>{"".join(rows)}</tbody></table></div></details>')
+    return (f'<details{" open" * is_open}><summary>{html.escape(name)} '
+            f'<span class="dim">{count:,} instructions, '
+            f'{share(count, total)}</span></summary>' f'<div class="wide"><table '
+            f'class="source"><tbody>{"".join(rows)}</tbody></table></div></details>')
 
 
 def sources_section(code: Any, counts: dict[int, int], sources: Any) -> str:
-    """The source lines with their counts, file by file, the one with the most instructions first; and the instructions of functions without lines."""
+    """The source lines with their counts, file by file, the one with the most instructions first;
+    and the instructions of functions without lines."""
     total, files = sum(counts.values()), collections.defaultdict(dict)
     for (file, number), held in code.lines().items():
         files[file][number] = sum(counts.get(it, 0) for it in held)
@@ -93,18 +106,23 @@ def sources_section(code: Any, counts: dict[int, int], sources: Any) -> str:
     blocks = []
     for file, lines in sorted(files.items(), key=lambda it: (-sum(it[1].values()), it[0])):
         rows = line_rows(list(file_lines(lines, sources.lines(file)))[:MOST_LINES], most)
-        blocks.append(block(pathlib.PurePath(file).name, sum(lines.values()), total, rows, not blocks))
-    bare = [(name, [it for it in held if not code.line(it)]) for name, held in code.functions().items()]
+        blocks.append(block(pathlib.PurePath(file).name, sum(lines.values()), total, rows,
+                            not blocks))
+    bare = [(name, [it for it in held if not code.line(it)])
+            for name, held in code.functions().items()]
     most, is_first = max([1, *counts.values()]), not blocks
     for name, held in sorted(bare, key=lambda it: -sum(counts.get(at, 0) for at in it[1])):
         count = sum(counts.get(it, 0) for it in held)
         if held and (count or is_first):
-            rows = line_rows([(f"{it:x}", counts.get(it, 0), code.texts[it]) for it in held[:MOST_LINES]], most)
-            blocks.append(block(f"{name}: instructions without a line" if not is_first else name, count, total, rows, is_first and count == total))
+            rows = line_rows([(f"{it:x}", counts.get(it, 0), code.texts[it])
+                              for it in held[:MOST_LINES]], most)
+            blocks.append(block(f"{name}: instructions without a line" if not is_first else name,
+                                count, total, rows, is_first and count == total))
     return f'<section id="sources"><h2>{"Source lines" if files else "Instructions"}</h2>{"".join(blocks)}</section>'
 
 
-def page(code: Any, counts: dict[int, int], stacks: dict[tuple[str, ...], int], sources: Any, title: str) -> str:
+def page(code: Any, counts: dict[int, int], stacks: dict[tuple[str, ...], int], sources: Any,
+         title: str) -> str:
     """The file."""
     name = html.escape(pathlib.PurePath(code.program).name)
     # no text of a program may end the element

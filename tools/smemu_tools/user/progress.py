@@ -1,4 +1,5 @@
-"""A line that says how far a script has come: on a terminal, rewritten in place, from the third second on."""
+"""A line that says how far a script has come: on a terminal, rewritten in place, from the third
+second on."""
 from __future__ import annotations
 
 import sys

@@ -6,11 +6,13 @@
     tools/smemu-tools vectors check FILE [--vl BITS] [--svl BITS]
                                       the first line of a file of vectors that `smemu vectors` refuses, with its field at fault and why
 
-An object has "word" (a number) or, of an answer, "end" ("next", or "call", "raise" or "shared" with "values"), and of the state what is not zero: "pc", "sp",
-"nzcv" (a number, N in bit 3), "tpidr", "tpidr2" and "svcr" as numbers; "x" as numbers by register; "z", "p" and "za" as hexadecimal by register; "ffr" and
-"m" as hexadecimal, the byte at the lowest address first. Numbers may be text with 0x. The status is 0, 1 where `compare` finds a difference or `check` a
-fault, 2 for what cannot be read. How many bytes a vector, a predicate or a vector of ZA has is looked at by `check` alone, since the lengths are options of
-the emulator.
+An object has "word" (a number) or, of an answer, "end" ("next", or "call", "raise" or "shared" with
+"values"), and of the state what is not zero: "pc", "sp", "nzcv" (a number, N in bit 3), "tpidr",
+"tpidr2" and "svcr" as numbers; "x" as numbers by register; "z", "p" and "za" as hexadecimal by
+register; "ffr" and "m" as hexadecimal, the byte at the lowest address first. Numbers may be text
+with 0x. The status is 0, 1 where `compare` finds a difference or `check` a fault, 2 for what cannot
+be read. How many bytes a vector, a predicate or a vector of ZA has is looked at by `check` alone,
+since the lengths are options of the emulator.
 """
 from __future__ import annotations
 
@@ -24,10 +26,13 @@ MOST_LINES = 2048
 LENGTHS = (128, 256, 512, 1024, 2048)
 FILES = {"x": 31, "z": 32, "p": 16, "za": 256}
 ORDER = ["x", "sp", "nzcv", "tpidr", "tpidr2", "svcr", "z", "p", "ffr", "za", "m"]
-# of each kind of value the digits in a line, and their base, where it is a number; the others are bytes
-NUMBERS = {**{key: ("[0-9a-f]{16}", 16) for key in ("x", "pc", "sp", "tpidr", "tpidr2")}, "nzcv": ("[01]{4}", 2), "svcr": ("[0-3]", 10)}
+# of each kind of value the digits in a line, and their base, where it is a number; the others are
+# bytes
+NUMBERS = {**{key: ("[0-9a-f]{16}", 16) for key in ("x", "pc", "sp", "tpidr", "tpidr2")},
+           "nzcv": ("[01]{4}", 2), "svcr": ("[0-3]", 10)}
 BYTES = "([0-9a-f]{2})+"
-FIELD = re.compile(r"(?:(x|za|z|p)(0|[1-9][0-9]{0,2})|(pc|sp|nzcv|tpidr2|tpidr|svcr|ffr|m))=([0-9a-f]+)")
+FIELD = re.compile(
+    r"(?:(x|za|z|p)(0|[1-9][0-9]{0,2})|(pc|sp|nzcv|tpidr2|tpidr|svcr|ffr|m))=([0-9a-f]+)")
 
 
 class Unread(ValueError):
@@ -63,12 +68,14 @@ def fields(state: Any) -> list[str]:
             numbered = sorted((int(n), value) for n, value in held.items())
         if key in FILES and any(not 0 <= n < FILES[key] for n, _ in numbered):
             raise Unread(f"a number of {key} is not below {FILES[key]}")
-        said += [f"{key}{n}={value_text(key, value)}" for n, value in numbered if value_text(key, value)]
+        said += [f"{key}{n}={value_text(key, value)}" for n, value in numbered
+                 if value_text(key, value)]
     return said
 
 
 def line(state: Any) -> str:
-    """The line of a vector, from its word and its state, or that of an answer, whose data end with their last byte that is not zero."""
+    """The line of a vector, from its word and its state, or that of an answer, whose data end with
+    their last byte that is not zero."""
     if "end" not in state:
         return " ".join([f"{number(state['word'], (1 << 32) - 1):08x}", *fields(state)])
     if state["end"] != "next":
@@ -113,12 +120,16 @@ def flat(state: dict[str, Any]) -> dict[str, int | list[str] | str]:
 
 
 def differences(first: list[str], second: list[str]) -> Any:
-    """What two files of answers differ in: the line from 1 on, the field, and its value in either, 0 where it is absent."""
+    """What two files of answers differ in: the line from 1 on, the field, and its value in either,
+    0 where it is absent."""
     found = []
     for number_of_line in range(max(len(first), len(second))):
-        sides = [flat(read(lines[number_of_line])) if number_of_line < len(lines) else {"end": "none"} for lines in (first, second)]
-        values = [(key, *(side.get(key) or 0 for side in sides)) for key in {**sides[0], **sides[1]}]
-        found += [(number_of_line + 1, key, first_value, other) for key, first_value, other in values if first_value != other]
+        sides = [flat(read(lines[number_of_line])) if number_of_line < len(lines)
+                 else {"end": "none"} for lines in (first, second)]
+        values = [(key, *(side.get(key) or 0 for side in sides))
+                  for key in {**sides[0], **sides[1]}]
+        found += [(number_of_line + 1, key, first_value, other)
+                  for key, first_value, other in values if first_value != other]
     return found
 
 
@@ -146,21 +157,27 @@ def value_fault(name: str, value: str, svcr: int, vl: int, svl: int) -> str:
     if key == "svcr":
         return "" if re.fullmatch("[0-3]", value) else "SVCR is 0 to 3"
     if key == "za" and (not svcr & 2 or int(name[2:]) >= svl):
-        return f"ZA has {svl} vectors, za0 to za{svl - 1}" if svcr & 2 else "ZA is there where svcr has bit 1, as svcr=2 before it"
+        return (f"ZA has {svl} vectors, za0 to za{svl - 1}" if svcr & 2
+                else "ZA is there where svcr has bit 1, as svcr=2 before it")
     wanted = {"z": length, "p": length // 8, "ffr": length // 8, "za": svl, "m": None}[key]
     if not re.fullmatch("([0-9a-f]{2})+", value):
         return "bytes have two hexadecimal digits each"
     if wanted is None:
         return "" if len(value) <= 2 * 4096 else "the data have at most 4,096 bytes"
-    return "" if len(value) == 2 * wanted else f"{name} has {wanted} bytes here, {2 * wanted} digits, and this is {len(value) / 2:g}"
+    return (
+        "" if len(value) == 2 * wanted
+        else f"{name} has {wanted} bytes here, {2 * wanted} digits, and this is {len(value) / 2:g}")
 
 
 def fault(text: str, number: int, vl: int, svl: int) -> tuple[int, str] | None:
-    """The column of a line of vectors, from 0, at which it is at fault, and why; None where it is not. The lengths are in bytes."""
+    """The column of a line of vectors, from 0, at which it is at fault, and why; None where it is
+    not. The lengths are in bytes."""
     if number > MOST_LINES:
         return 0, f"a file has at most {MOST_LINES:,} lines"
     if not re.match("[0-9a-f]{8}( |$)", text.rstrip("\r")):
-        return 0, "a line begins with a word of 8 hexadecimal digits, letters in lower case" if text else "an empty line is no vector"
+        return (0,
+                "a line begins with a word of 8 hexadecimal digits, letters in lower case" if text
+                else "an empty line is no vector")
     column, before, svcr = 8, None, 0
     for word in text.split(" ")[1:]:
         column += 1
@@ -169,19 +186,27 @@ def fault(text: str, number: int, vl: int, svl: int) -> tuple[int, str] | None:
         if not word:
             return column, "between two fields stands one space, and none at the end"
         if not equal or key is None:
-            return column, f"a field is KEY=VALUE, and a key one of x0 to x30, sp, nzcv, tpidr, tpidr2, svcr, z0 to z31, p0 to p15, ffr, za0 to za{svl - 1}, m"
+            return (column,
+                    f"a field is KEY=VALUE, and a key one of x0 to x30, "
+                    f"sp, nzcv, tpidr, tpidr2, svcr, z0 to z31, p0 to p15, ffr, "
+                    f"za0 to za{svl - 1}, m")
         if before is not None and key <= before[0]:
-            return column, f"{name} stands twice" if key == before[0] else f"{name} is to stand before {before[1]}: the order is {', '.join(ORDER)}, by their numbers"
+            return (column,
+                    f"{name} stands twice" if key == before[0]
+                    else f"{name} is to stand before {before[1]}: the order is "
+                    f"{', '.join(ORDER)}, by their numbers")
         why = value_fault(name, value.rstrip("\r"), svcr, vl, svl)
         if why:
             return column + len(name) + 1, why
         before, column = (key, name), column + len(word)
         svcr = int(value[0]) if name == "svcr" else svcr
-    return (len(text) - 1, "a line ends with a line feed alone, without a carriage return") if text.endswith("\r") else None
+    return ((len(text) - 1, "a line ends with a line feed alone, without a carriage return")
+            if text.endswith("\r") else None)
 
 
 def check(name: Any, vl: int, svl: int) -> tuple[int, int, str, str] | None:
-    """The first line of a file of vectors that is at fault, its column from 0, the line and why; None where there is none. The lengths are in bits."""
+    """The first line of a file of vectors that is at fault, its column from 0, the line and why;
+    None where there is none. The lengths are in bits."""
     with open(name, errors="replace", newline="\n") as file:
         lines = file.read().split("\n")
     for number, text in enumerate(lines[:-1] if not lines[-1] else lines, 1):
@@ -193,7 +218,9 @@ def check(name: Any, vl: int, svl: int) -> tuple[int, int, str, str] | None:
 
 def check_words(words: list[str]) -> argparse.Namespace:
     """The words after `check`: a name and the lengths, 128 and 256 where they are not given."""
-    parser = argparse.ArgumentParser(prog="smemu-tools vectors check", description="Says which line of a file of vectors is at fault, in which field, and why.")
+    parser = argparse.ArgumentParser(
+        prog="smemu-tools vectors check",
+        description="Says which line of a file of vectors is at fault, in which field, and why.")
     parser.add_argument("file", metavar="FILE")
     parser.add_argument("--vl", type=int, choices=LENGTHS, default=128)
     parser.add_argument("--svl", type=int, choices=LENGTHS, default=256)
@@ -201,7 +228,8 @@ def check_words(words: list[str]) -> argparse.Namespace:
 
 
 def shown(value: int | list[str] | str) -> str:
-    return f"{value:x}" if isinstance(value, int) else " ".join(value) if isinstance(value, list) else value
+    return (f"{value:x}" if isinstance(value, int) else " ".join(value) if isinstance(value, list)
+            else value)
 
 
 def asked(words: list[str]) -> int:
@@ -222,10 +250,12 @@ def asked(words: list[str]) -> int:
         found = check(given.file, given.vl, given.svl)
         if found:
             number, column, text, why = found
-            print(f"line {number}, column {column + 1}: {why}", text.rstrip("\r"), " " * column + "^", sep="\n")
+            print(f"line {number}, column {column + 1}: {why}", text.rstrip("\r"),
+                  " " * column + "^", sep="\n")
         return 1 if found else 0
     elif words in (["-h"], ["--help"]):
-        print("usage: smemu-tools vectors line|state|compare|check ..", "", __doc__.strip(), sep="\n")
+        print("usage: smemu-tools vectors line|state|compare|check ..", "", __doc__.strip(),
+              sep="\n")
     else:
         print(__doc__.strip(), file=sys.stderr)
         return 2

@@ -1,7 +1,9 @@
-"""Makes plans for `sim` and reads what it writes, for the scripts that try many orders of a program's threads: docs/WORLDS.md has plans and worlds.
+"""Makes plans for `sim` and reads what it writes, for the scripts that try many orders of a
+program's threads: docs/WORLDS.md has plans and worlds.
 
-A thread acts on the others only where it makes an operation on what they share: an *event*. A polling for signals is one, but as long as no thread
-posts any it is passed over. A *step* of a thread is its turns up to its next event, and, where it makes no more, to its stop.
+A thread acts on the others only where it makes an operation on what they share: an *event*. A
+polling for signals is one, but as long as no thread posts any it is passed over. A *step* of a
+thread is its turns up to its next event, and, where it makes no more, to its stop.
 """
 from __future__ import annotations
 
@@ -20,7 +22,8 @@ MOST_TURNS = 1 << 32
 
 
 class Piece(NamedTuple):
-    """Turns that a thread makes in one go, and how they end: "" after so many, by a yield, or with its stop."""
+    """Turns that a thread makes in one go, and how they end: "" after so many, by a yield, or with
+    its stop."""
     thread: int
     turns: int
     end: str = ""
@@ -72,7 +75,8 @@ def joined(pieces: list[Piece]) -> list[Piece]:
 
 
 class Block(NamedTuple):
-    """A thread's block in what `sim` writes: its stop, its numbers, and its other lines up to the journal."""
+    """A thread's block in what `sim` writes: its stop, its numbers, and its other lines up to the
+    journal."""
     stop: str
     count: int  # type: ignore[assignment]
     turns: int
@@ -84,7 +88,8 @@ class Block(NamedTuple):
 
     def lines(self, name: str) -> list[str]:
         """Its lines of a name, or of a name and a number."""
-        return [line for line in self.text.split("\n") if line == name or line.startswith(name + " ")]
+        return [line for line in self.text.split("\n")
+                if line == name or line.startswith(name + " ")]
 
     @property
     def has_za(self) -> bool:
@@ -131,9 +136,11 @@ class Endless(Exception):
 
 
 class State:
-    """A state of a world: the pieces that lead to it, and what a search needs to know of it. The texts are long, so they are not kept."""
+    """A state of a world: the pieces that lead to it, and what a search needs to know of it. The
+    texts are long, so they are not kept."""
 
-    def __init__(self, world: World, pieces: list[Piece], seen: Seen, trail: list[tuple[int, int]], has_event: bool = True, has_yield: bool = False) -> None:
+    def __init__(self, world: World, pieces: list[Piece], seen: Seen, trail: list[tuple[int, int]],
+                 has_event: bool = True, has_yield: bool = False) -> None:
         # of each event that counts the thread, and its count of instructions after it
         self.pieces, self.trail = pieces, trail
         self.turns = [block.turns for block in seen.blocks]
@@ -159,8 +166,10 @@ def digest(text: str) -> bytes:
 class World:
     """A program and the options of its runs. Several threads may call it at once."""
 
-    def __init__(self, program: str, options: list[Any], threads: int, cores: int, describe: Callable[..., Any]) -> None:
-        self.words = [emulator.find(), "sim", str(program), "/dev/stdin", "--threads", str(threads), "--cores", str(cores), *options]
+    def __init__(self, program: str, options: list[Any], threads: int, cores: int,
+                 describe: Callable[..., Any]) -> None:
+        self.words = [emulator.find(), "sim", str(program), "/dev/stdin", "--threads", str(threads),
+                      "--cores", str(cores), *options]
         self.threads, self.cores, self.describe = threads, cores, describe
         self.slice = int(options[options.index("--slice") + 1]) if "--slice" in options else 1000
         self.has_signals, self.gaps = False, {}
@@ -217,7 +226,9 @@ class World:
         if pieces[-1].end == "stop":
             return seen.blocks[thread].is_done and not events
         turns = seen.blocks[thread].turns - start.turns[thread]
-        return len(events) == 1 and seen.history[-1] == events[0] and turns == sum(piece.turns for piece in pieces)
+        return len(events) == 1 and seen.history[-1] == events[0] and turns == sum(piece.turns
+                                                                                   for piece
+                                                                                   in pieces)
 
     def search(self, start: State, thread: int) -> tuple[list[Piece], Seen] | None:
         """Looks for the pieces of a thread's step."""
@@ -242,7 +253,8 @@ class World:
             made.append(Piece(thread, gone, "yield"))
             before = block.turns
 
-    def narrow(self, start: State, made: list[Piece], thread: int, high: int) -> tuple[list[Piece], Seen]:
+    def narrow(self, start: State, made: list[Piece], thread: int, high: int) -> tuple[list[Piece],
+                                                                                       Seen]:
         """Looks for the least turns that make the event, of which so many make one or more."""
         prefix, low, exact = [*start.pieces, *made], 0, None
         while high - low > 1:
