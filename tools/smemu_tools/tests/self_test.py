@@ -128,11 +128,14 @@ def try_cases(smemu: str, name: str, group: str, cases: list[str]) -> Result:
     else:
         file, _, words = group.partition(" ")
         base = (DATA / file).read_bytes()
-    with tempfile.NamedTemporaryFile(prefix="smemu-") as changed:
+    with tempfile.NamedTemporaryFile(prefix="smemu-", buffering=0) as changed:
         given = [changed.name if word == "@" else word for word in words.split()]
         for case, text in (it.split("\t", 1) for it in cases):
             content, status = after_changes(base, case)
-            pathlib.Path(changed.name).write_bytes(content)
+            # written over what is there, since a file that is made empty first is waited for
+            changed.seek(0)
+            changed.write(content)
+            changed.truncate()
             found = answer(smemu, given)
             is_right = found[0] == status and is_text(found[1], content, given[-1],
                                                       text) == (name != DIFFERING)
