@@ -168,12 +168,12 @@ def make_root(tests: Tests, root: pathlib.Path, has_python: bool) -> None:
         unneeded = shutil.ignore_patterns("__pycache__", "test", "idlelib", "lib2to3",
                                           "dist-packages", "config-*")
         shutil.copytree(folder, root / str(folder)[1:], ignore=unneeded, symlinks=True)
-    for name in ("tmp", "dev", "proc"):
+    for name in ("home", "tmp", "dev", "proc"):
         (root / name).mkdir(exist_ok=True)
     (root / "dev/null").touch()
     (root / "dev/null").chmod(0o666)
     for name in ("hello.elf", "hello.report"):
-        shutil.copy(tests.path(name), root / "tmp")
+        shutil.copy(tests.path(name), root / "home")
 
 
 def try_root(tests: Tests) -> None:
@@ -193,7 +193,7 @@ def try_root(tests: Tests) -> None:
         shutil.copytree(prefix, root / "usr/local", symlinks=True)
         within = (*enter, root, shutil.which("env"), "-i", "PATH=/usr/local/bin:/usr/bin:/bin",
                   shutil.which("bash"), "-c")
-        run = lambda words: tests.run(*within, f"cd /tmp && {words}")
+        run = lambda words: tests.run(*within, f"cd /home && {words}")
         tests.check("run", run("smemu run hello.elf"), (0, tests.path("hello.report").read_text()))
         tests.check("--help", run("smemu --help"), tests.run(tests.tree / "smemu", "--help"))
         tests.check("run --help", run("smemu run -h"), tests.run(tests.tree / "smemu", "run", "-h"))
