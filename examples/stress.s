@@ -1,6 +1,6 @@
 // Each thread adds to shared words 1 and 2 under a lock, which is shared word 0, posts a signal to the next
 // thread after each round, and keeps ZA meanwhile: its handler uses ZA too. It ends with 0 where its ZA is
-// at the end what it was before the first round. tools/stress.py runs it.
+// at the end what it was before the first round. tools/smemu-tools stress runs it.
 .text
 .global _start
 _start:

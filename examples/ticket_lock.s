@@ -1,5 +1,5 @@
 // Each thread adds one to shared word 2 in 1000 rounds, under a lock that is given in the order of tickets: shared word 0
-// is the next ticket, and shared word 1 the one whose turn it is. A thread that waits yields. tools/ticket_lock.py runs it.
+// is the next ticket, and shared word 1 the one whose turn it is. A thread that waits yields. tools/smemu-tools ticket-lock runs it.
 .text
 .global _start
 _start:

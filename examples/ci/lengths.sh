@@ -34,7 +34,7 @@ for bits in 128 256 512 1024 2048; do
         rm "$made"
     else
         echo "$program at $bits bits: $made is not $report"
-        "$top/tools/show.py" "$report" "$made"
+        "$top/smemu" show "$report" "$made"
         status=1
     fi
 done

@@ -1,0 +1,1 @@
+"""What users start, and what that stands on. An installation has this folder."""
