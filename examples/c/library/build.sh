@@ -7,7 +7,7 @@
 # A file that includes arm_sve.h is compiled with the options for intrinsics, each other one with those for scalar code. Words that
 # begin with - go to the compiler, as -g, and -DHEAP=N, the bytes of malloc; -DSTACK=N goes to start.s.
 set -eu
-compiler=$1 linker=$2 program=$3
+compiler=$1 called=$1 linker=$2 program=$3
 shift 3
 from=$(dirname "$0")
 options= files= stack=
@@ -42,4 +42,5 @@ make() {
 for file in $files; do make "$file"; done
 for name in memory strings print heap sort shared; do make "$from/$name.c" -fno-builtin $own; done
 $compiler $stack -c "$from/../start.s" -o "$work/start.o"
-"$linker" -static -z max-page-size=4096 -o "$program" "$work"/*.o
+objects=$(echo "$work"/*.o)
+"$linker" -static --gc-sections -z max-page-size=4096 -o "$program" $objects $("$from/../routines.sh" "$called" "$work")

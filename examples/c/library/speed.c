@@ -5,7 +5,7 @@
 
 #define SIZE 4000
 #define LOOP __attribute__((noinline)) static
-static char from[SIZE + 1], to[SIZE + 1];
+static char from[SIZE + 1] __attribute__((aligned(4096))), to[SIZE + 1] __attribute__((aligned(4096)));
 
 LOOP void loop_copy(char *out, const char *in, uint64_t size) {
     for (uint64_t i = 0; i < size; i++) out[i] = in[i];

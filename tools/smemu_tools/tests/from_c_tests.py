@@ -1,11 +1,12 @@
-"""Tries what docs/FROM_C.md says of programs of C: the library of examples/c/library.
+"""Tries what docs/FROM_C.md says of programs of C: the library and the routines of examples/c.
 
     tools/smemu-tools from-c-tests [PROGRAM]
 
 PROGRAM is the emulator; where it is not given it is what ./smemu runs. Each function of the library
-is compared with a plain one of samples/library at five lengths, with each compiler that is there,
-and what printf writes with Python's. Faults that are planted in the library have to be told. A
-compiler that is not on the PATH is passed over with a line.
+is compared with a plain one of samples/library at five lengths and in both modes, with each
+compiler that is there, and what printf writes with Python's. Of the routines of AAPCS64 all
+registers are looked at, of ours and of LLVM's where ROUTINES names its library. Faults that are
+planted have to be told. A compiler that is not on the PATH is passed over with a line.
 """
 from __future__ import annotations
 
@@ -35,6 +36,34 @@ WRONG = (
     ("strings.c", "if (part > other) part = other", "other++"),
     ("strings.c", "if (part > most - at) part = most - at", ""),
 )
+# the table of samples/library/kept.s: a case, that with which its registers are compared, and the
+# general registers that it may change
+CASES = (
+    ("nothing", 0, ()), ("nothing", 1, ()), ("nothing", 2, ()),
+    ("__arm_tpidr2_save without a block", 0, range(14, 18)),
+    ("__arm_tpidr2_save", 1, range(14, 18)),
+    ("saved and restored", 1, (0, *range(14, 18))),
+    ("__arm_za_disable with ZA off", 2, range(14, 18)),
+    ("__arm_za_disable without a block", 2, range(14, 18)),
+    ("__arm_za_disable", 2, range(14, 18)),
+    ("__arm_sme_state with ZA off", 2, (0, 1, 16, 17, 18)),
+    ("__arm_sme_state", 1, (0, 1, 16, 17, 18)),
+    ("__arm_get_current_vg", 0, (0, 16, 17, 18)),
+    *((f"__arm_sc_{name}", 0, range(18)) for name in ("memcpy", "memmove", "memset", "memchr")),
+)
+# of these the vectors and predicates too may change, but not the low halves of Z8 to Z15
+CHANGE_VECTORS = range(12, 16)
+# a file of the routines, a text in it, a wrong one, and the number of the case that tells it
+WRONG_ROUTINES = (
+    ("za.s", "ldr za[w15, 0], [x14]\n", "ldr za[w15, 0], [x14]\n        sub w16, w16, #1\n", 5),
+    ("za.s", "restore:\n        cmp w15, w16\n", "restore:\n        add w14, w15, #1\n        cmp w14, w16\n",
+     5),
+    ("za.s", "#0xc000000000000000", "#0x8000000000000000", 10),
+    ("za.s", "cntd x0", "cntw x0", 11),
+    ("za.s", "        smstop za\n", "        smstop\n", 8),
+    ("sc.s", "whilelo p0.b, xzr, x3", "whilelo p0.b, xzr, x3\n        dup z9.b, w1", 15),
+    ("sc.s", "mov x3, #0\n", "mov x3, #0\n        mov x19, #0\n", 12),
+)
 
 
 def there() -> list[tuple[str, str]]:
@@ -54,29 +83,29 @@ def build(tests: Any, pair: tuple[str, str], name: str, sources: list[Any], *opt
 
 
 def outcome(tests: Any, program: Any, *options: Any) -> tuple[str, str]:
-    """How a run ends, and its output."""
+    """How the threads of a run end, and their output."""
     said = tests.run(tests.smemu, "run", program, *options)[1]
     output = bytes.fromhex("".join(re.findall(r"^out (\w+)$", said, re.M)))
-    return re.findall(r"^stop (\w+ ?\w*)", said, re.M)[0], output.decode(errors="replace")
+    stops = re.findall(r"^stop (\w+ ?\w*)", said, re.M)
+    return ", ".join(stops), output.decode(errors="replace")
 
 
 def try_beside(tests: Any, pair: tuple[str, str]) -> None:
     """Each function of memory and texts beside a plain one."""
     program = build(tests, pair, "beside", [SAMPLES / "beside.c"], "-fno-builtin", "-DSTACK=65536")
     for bits in LENGTHS:
-        stop, output = outcome(tests, program, "--vl", bits, *LONG)
+        stop, output = outcome(tests, program, "--vl", bits, "--svl", bits, "--threads", 2, *LONG)
         rounds = re.findall(r"^(\w+) (\d+) of (\d+)$", output, re.M)
         wrong = [name for name, right, of in rounds if right != of or int(of) < 100]
         tests.check(f"beside plain ones, by {pair[0]} at {bits}", (stop, len(rounds), wrong),
-                    ("exited 0", 15, []))
+                    ("exited 0, exited 0", 38, []))
 
 
 def try_faults(tests: Any, pair: tuple[str, str]) -> None:
     """A fault in the library is told."""
     for number, (file, text, wrong) in enumerate(WRONG):
         library = tests.path(f"wrong-{number}") / "library"
-        shutil.copytree(LIBRARY, library)
-        shutil.copy(LIBRARY.parent / "start.s", library.parent)
+        shutil.copytree(LIBRARY.parent, library.parent)
         source = (library / file).read_text()
         tests.check(f"there in {file}: {text}", text in source, True)
         (library / file).write_text(source.replace(text, wrong))
@@ -161,6 +190,85 @@ def try_threads(tests: Any, pair: tuple[str, str]) -> None:
         tests.check(f"threads by {pair[0]}, {option}", stops, wanted)
 
 
+def link_routines(tests: Any, pair: tuple[str, str], folder: Any) -> Any:
+    """The program of kept.s and the routines of this folder, or nothing where it does not link."""
+    compiler = [pair[0], *["--target=aarch64-linux-gnu"] * ("clang" in pair[0])]
+    work = tests.path("routines")
+    work.mkdir(exist_ok=True)
+    tests.run(*compiler, "-c", SAMPLES / "kept.s", "-o", work / "kept.o")
+    status, names = tests.run(folder / "routines.sh", pair[0], work)
+    program = tests.path("kept.elf")
+    said = tests.run(pair[1], "-static", "-z", "max-page-size=4096", "-o", program,
+                     work / "kept.o", *names.split())
+    tests.check(f"the routines of {folder.name}", (status, *said), (0, 0, ""))
+    return program
+
+
+def registers(tests: Any, program: Any, bits: int) -> Any:
+    """Of each thread the lines of its report by their first words, as `x 3` and `za 12`."""
+    said = tests.run(tests.smemu, "run", program, "--threads", 2 * len(CASES), "--vl", bits,
+                     "--svl", bits, "--slice", 1000000)[1]
+    blocks = []
+    for block in re.findall(r"^thread \d+\n(.*?)^end-thread", said, re.M | re.S):
+        lines = [line.split() for line in block.splitlines()]
+        blocks.append({" ".join(line[:-1]) if line[0] in ("x", "z", "p", "za") else line[0]:
+                       line[-1] for line in lines})
+    return blocks
+
+
+def low_halves(held: Any) -> Any:
+    """What the base rules keep of vectors, whose last digits are those of the first elements."""
+    return {name: text[-16:] for name, text in held.items()
+            if name in {f"z {number}" for number in range(8, 16)}}
+
+
+def kept_faults(tests: Any, program: Any, bits: int, ours: Any = True) -> Any:
+    """The cases whose routine changes what it is to keep, or does not answer what it is to."""
+    blocks = registers(tests, program, bits)
+    faults = set()
+    for number, (_, beside, changed) in enumerate(CASES):
+        for mode in (0, 1):
+            here, there = dict(blocks[2 * number + mode]), dict(blocks[2 * beside + mode])
+            if number in (6, 7, 8) and here["svcr"] != str(mode):
+                faults.add(number)
+            wanted = {9: (3 << 62 | mode, 0), 10: (3 << 62 | 2 | mode, int(here["tpidr2"], 16)),
+                      11: (bits // 64,)}.get(number, ())
+            if wanted != tuple(int(here.get(f"x {at}", "0"), 16) for at in range(len(wanted))):
+                faults.add(number)
+            if not here["stop"] == there["stop"]:
+                faults.add(number)
+            if number in CHANGE_VECTORS and low_halves(here) != low_halves(there):
+                faults.add(number)
+            ignored = {"count", "turns", "nzcv", "memory", *(f"x {at}" for at in changed)}
+            if number == 5:
+                ignored.add("tpidr2")
+            if number in CHANGE_VECTORS:
+                ignored |= {f"{kind} {at}" for kind in "zp" for at in range(32)}
+            if any(here.get(it) != there.get(it) for it in {*here, *there} - ignored):
+                faults.add(number)
+    return sorted(faults)
+
+
+def try_routines(tests: Any, pair: tuple[str, str]) -> None:
+    """The routines keep what they are to keep, in both modes, ours and LLVM's."""
+    named = os.environ.get("ROUTINES", "")
+    for library in ["", *[named] * bool(named)]:
+        tests.environment["ROUTINES"] = library
+        program = link_routines(tests, pair, TOP / "examples/c")
+        for bits in LENGTHS:
+            tests.check(f"registers at {bits}, by {library or 'za.s'}",
+                        kept_faults(tests, program, bits), [])
+    tests.environment["ROUTINES"] = ""
+    for number, (file, text, wrong, case) in enumerate(WRONG_ROUTINES):
+        folder = tests.path(f"routines-{number}")
+        shutil.copytree(TOP / "examples/c", folder, ignore=shutil.ignore_patterns("library"))
+        source = (folder / file).read_text()
+        tests.check(f"there in {file}: {text}", text in source, True)
+        (folder / file).write_text(source.replace(text, wrong))
+        tests.check(f"told: {wrong!r} in {file}",
+                    case in kept_faults(tests, link_routines(tests, pair, folder), 256), True)
+
+
 def main() -> int:
     words = parser(__doc__)
     words.add_argument("program", nargs="?", metavar="PROGRAM")
@@ -173,6 +281,7 @@ def main() -> int:
             try_print(tests, pair)
             try_heap(tests, pair)
             if not number:
+                try_routines(tests, pair)
                 try_threads(tests, pair)
                 try_faults(tests, pair)
     print(f"from_c_tests: {tests.number} checks, {tests.faults} failed")

@@ -1,11 +1,15 @@
 // Each function of memory and texts of examples/c/library beside a plain one, over bytes at random at random places, many of them at
-// either end of the kernel's stack, outside of which nothing is read: so this program has its own stack in .bss. It exits with how many
-// functions differ.
+// either end of the kernel's stack, outside of which nothing is read: so this program has its own stack in .bss. Thread 1 calls them in
+// streaming mode. Each exits with how many functions differ.
 #include <stdint.h>
 #include <stdio.h>
 #include <string.h>
 
 #define ROUNDS 100
+void *__arm_sc_memcpy(void *to, const void *from, size_t size);
+void *__arm_sc_memmove(void *to, const void *from, size_t size);
+void *__arm_sc_memset(void *to, int byte, size_t size);
+void *__arm_sc_memchr(const void *from, int byte, size_t size);
 #define MOST 700
 static uint8_t *const low = (uint8_t *)0x7e0000000000 - 262144, *const high = (uint8_t *)0x7e0000000000;
 static uint8_t kept[3][MOST + 300];
@@ -72,29 +76,35 @@ static int same(void) {
     return 1;
 }
 
-static int try_memcpy(uint64_t size) {
+static int memcpy_by(void *(*copy)(void *, const void *, size_t), uint64_t size) {
     uint8_t *from = bytes(size, 255);
     uint64_t at = random_below(256);
     fill();
     for (uint64_t i = 0; i < size; i++) kept[1][at + i] = from[i];
-    return memcpy(kept[0] + at, from, size) == kept[0] + at && same();
+    return copy(kept[0] + at, from, size) == kept[0] + at && same();
 }
+static int try_memcpy(uint64_t size) { return memcpy_by(memcpy, size); }
+static int try_sc_memcpy(uint64_t size) { return memcpy_by(__arm_sc_memcpy, size); }
 
-static int try_memmove(uint64_t size) {
+static int memmove_by(void *(*copy)(void *, const void *, size_t), uint64_t size) {
     uint64_t from = random_below(256), to = random_below(256);
     fill();
     for (uint64_t i = 0; i < size; i++) kept[2][i] = kept[1][from + i];
     for (uint64_t i = 0; i < size; i++) kept[1][to + i] = kept[2][i];
-    return memmove(kept[0] + to, kept[0] + from, size) == kept[0] + to && same();
+    return copy(kept[0] + to, kept[0] + from, size) == kept[0] + to && same();
 }
+static int try_memmove(uint64_t size) { return memmove_by(memmove, size); }
+static int try_sc_memmove(uint64_t size) { return memmove_by(__arm_sc_memmove, size); }
 
-static int try_memset(uint64_t size) {
+static int memset_by(void *(*set)(void *, int, size_t), uint64_t size) {
     uint64_t at = random_below(256);
     int byte = random_below(1000);
     fill();
     for (uint64_t i = 0; i < size; i++) kept[1][at + i] = byte;
-    return memset(kept[0] + at, byte, size) == kept[0] + at && same();
+    return set(kept[0] + at, byte, size) == kept[0] + at && same();
 }
+static int try_memset(uint64_t size) { return memset_by(memset, size); }
+static int try_sc_memset(uint64_t size) { return memset_by(__arm_sc_memset, size); }
 
 // A copy with one byte changed, at the end of memory where it is no copy of what stands there.
 static const uint8_t *like(const uint8_t *from, uint64_t size) {
@@ -109,12 +119,14 @@ static int try_memcmp(uint64_t size) {
     return sign(memcmp(left, right, size)) == plain_compare(left, right, size, 0);
 }
 
-static int try_memchr(uint64_t size) {
+static int memchr_by(void *(*find)(const void *, int, size_t), uint64_t size) {
     const uint8_t *in = bytes(size, 200);
     int byte = 1 + random_below(200);
     uint64_t most = plain_find(in, byte, size) < 0 ? size : size + random_below(2) * 1000000;
-    return place(memchr(in, byte + 256, most), in) == plain_find(in, byte, size);
+    return place(find(in, byte + 256, most), in) == plain_find(in, byte, size);
 }
+static int try_memchr(uint64_t size) { return memchr_by(memchr, size); }
+static int try_sc_memchr(uint64_t size) { return memchr_by(__arm_sc_memchr, size); }
 
 static int try_strlen(uint64_t length) { return strlen((char *)text(length, 255)) == length; }
 
@@ -183,12 +195,15 @@ static const struct {
     const char *name;
     int (*function)(uint64_t);
 } trials[] = {TRY(memcpy),  TRY(memmove), TRY(memset),  TRY(memcmp),  TRY(memchr), TRY(strlen),  TRY(strnlen), TRY(strcmp),
-              TRY(strncmp), TRY(strchr),  TRY(strrchr), TRY(strcpy),  TRY(strncpy), TRY(strcat), TRY(strstr)};
+              TRY(strncmp), TRY(strchr),  TRY(strrchr), TRY(strcpy),  TRY(strncpy), TRY(strcat), TRY(strstr),
+              TRY(sc_memcpy), TRY(sc_memmove), TRY(sc_memset), TRY(sc_memchr)};
 
-int main(void) {
+int main(uint64_t me) {
     int differ = 0;
     for (uint64_t i = 0; i < sizeof trials / sizeof *trials; i++) {
         int right = 0;
+        // printf left streaming mode, as each call of the kernel does
+        if (me) __asm__ volatile(".inst 0xd503437f" ::: "memory"); // smstart sm
         for (uint64_t round = 0; round < ROUNDS; round++) right += trials[i].function(1 + random_below(round % 2 ? MOST : 40));
         printf("%s %d of %d\n", trials[i].name, right, ROUNDS);
         differ += right != ROUNDS;
