@@ -6,7 +6,7 @@
 #
 # Words after these, as -g, go to the compiler.
 set -eu
-compiler=$1 linker=$2 program=$3
+compiler=$1 called=$1 linker=$2 program=$3
 shift 3
 from=$(dirname "$0")
 work=$(mktemp -d)
@@ -17,7 +17,6 @@ case $compiler in
     compiler="$compiler --target=aarch64-linux-gnu"
     scalar="-DMATRIX" vectors="-mno-implicit-float"
     $compiler $options -march=armv8.1-a+sme+sme-i16i64 -mno-implicit-float -c "$from/matrix.c" -o "$work/matrix.o"
-    $compiler -c "$from/za.s" -o "$work/za.o"
     ;;
 *)
     scalar="" vectors="-fno-tree-vectorize"
@@ -26,4 +25,6 @@ esac
 $compiler $options -march=armv8.1-a -mgeneral-regs-only $scalar -c "$from/main.c" -o "$work/main.o"
 $compiler $options -march=armv8.1-a+sve2 $vectors -c "$from/vectors.c" -o "$work/vectors.o"
 $compiler -c "$from/start.s" -o "$work/start.o"
-"$linker" -static -z max-page-size=4096 -o "$program" "$work"/*.o
+objects=$(echo "$work"/*.o)
+[ -z "$scalar" ] || objects="$objects $("$from/routines.sh" "$called" "$work")"
+"$linker" -static --gc-sections -z max-page-size=4096 -o "$program" $objects

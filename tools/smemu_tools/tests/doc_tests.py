@@ -74,7 +74,8 @@ def shown(command: str, folder: pathlib.Path) -> list[str]:
     or how far it is."""
     main, side = pty.openpty()
     shell = subprocess.Popen(["bash", "-c", command], cwd=folder, stdin=subprocess.DEVNULL,
-                             stdout=side, stderr=side, start_new_session=True)
+                             stdout=side, stderr=side, start_new_session=True,
+                             env={**os.environ, "ROUTINES": ""})
     os.close(side)
     alarm = threading.Timer(SECONDS, os.killpg, (shell.pid, signal.SIGKILL))
     alarm.start()
