@@ -1,5 +1,5 @@
 // Small streaming routines, one program each: ROUTINE is its number. CALLED is 1 where main calls by an asm statement, 0 where the compiler
-// changes the mode.
+// changes the mode. With INSTEAD what becomes words that are not listed is written so that it does not: the sums are the same.
 #include <arm_sme.h>
 #include <stdint.h>
 
@@ -15,6 +15,14 @@ static uint64_t digest(const void *what, uint64_t count) {
     for (uint64_t i = 0; i < count; i++) sum = (sum ^ at[i]) * 1099511628211u;
     return sum;
 }
+
+#ifdef INSTEAD
+// A bound that the compiler does not see: GCC makes the numbers of slices constants else, and keeps them in vector registers.
+#define BOUND(number) ({ uint32_t hidden = number; __asm__("" : "+r"(hidden)); hidden; })
+#else
+#define BOUND(number) number
+#endif
+#define ROWS(row) for (uint32_t row = 0, rows = BOUND(4); row < rows; row++)
 
 #if CALLED
 static void call(void) {
@@ -43,7 +51,7 @@ void work(void) ZA {
     svzero_za();
     svint8_t a = svld1(svptrue_pat_b8(SV_VL16), (int8_t *)bytes), b = svld1(svptrue_pat_b8(SV_VL16), (int8_t *)bytes + 99);
     svmopa_za32_m(0, svptrue_b8(), svptrue_b8(), a, b);
-    for (uint32_t row = 0; row < 4; row++) put(row);
+    ROWS(row) put(row);
 }
 #elif ROUTINE == 2 // unsigned by signed
 void work(void) ZA {
@@ -53,18 +61,18 @@ void work(void) ZA {
         svint8_t b = svld1(svptrue_pat_b8(SV_VL16), (int8_t *)bytes + 99 + i);
         svusmopa_za32_m(0, svptrue_b8(), svptrue_b8(), a, b);
     }
-    for (uint32_t row = 0; row < 4; row++) put(row);
+    ROWS(row) put(row);
 }
 #elif ROUTINE == 3 // a transpose
 void work(void) ZA {
-    for (uint32_t row = 0; row < 4; row++) svld1_hor_za32(0, row, svptrue_pat_b32(SV_VL4), (uint32_t *)bytes + 4 * row);
-    for (uint32_t row = 0; row < 4; row++) svst1_ver_za32(0, row, svptrue_pat_b32(SV_VL4), sums + 4 * row);
+    ROWS(row) svld1_hor_za32(0, row, svptrue_pat_b32(SV_VL4), (uint32_t *)bytes + 4 * row);
+    ROWS(row) svst1_ver_za32(0, row, svptrue_pat_b32(SV_VL4), sums + 4 * row);
 }
 #elif ROUTINE == 4 // slices to vectors and back
 void work(void) ZA {
     svzero_za();
-    for (uint32_t row = 0; row < 4; row++) svwrite_hor_za32_m(0, row, svptrue_b32(), svindex_s32(row, 3));
-    for (uint32_t row = 0; row < 4; row++) {
+    ROWS(row) svwrite_hor_za32_m(0, row, svptrue_b32(), svindex_s32(row, 3));
+    ROWS(row) {
         svint32_t column = svread_ver_za32_m(svdup_s32(0), svptrue_b32(), 0, row);
         svst1(svptrue_pat_b32(SV_VL4), sums + 4 * row, column);
     }
@@ -72,21 +80,29 @@ void work(void) ZA {
 #elif ROUTINE == 5 // sums of rows
 void work(void) ZA {
     svzero_za();
-    for (int i = 0; i < 8; i++) svaddha_za32_m(0, svptrue_b32(), svptrue_b32(), svindex_s32(i, 5));
-    for (uint32_t row = 0; row < 4; row++) put(row);
+    for (int i = 0, rows = BOUND(8); i < rows; i++) svaddha_za32_m(0, svptrue_b32(), svptrue_b32(), svindex_s32(i, 5));
+    ROWS(row) put(row);
 }
 #elif ROUTINE == 6 // vectors of ZA, to memory and back
 void work(void) ZA {
     static uint8_t kept[256 * 256];
-    for (uint32_t row = 0; row < 4; row++) svld1_hor_za32(0, row, svptrue_pat_b32(SV_VL4), (uint32_t *)bytes + 4 * row);
+    ROWS(row) svld1_hor_za32(0, row, svptrue_pat_b32(SV_VL4), (uint32_t *)bytes + 4 * row);
     for (uint32_t v = 0; v < svcntb(); v++) svstr_vnum_za(v, kept + v * svcntb(), 0);
     svzero_za();
     for (uint32_t v = 0; v < svcntb(); v++) svldr_vnum_za(v, kept + v * svcntb(), 0);
-    for (uint32_t row = 0; row < 4; row++) put(row);
+    ROWS(row) put(row);
 }
 #elif ROUTINE == 7 // a reduction in streaming mode
 void work(void) ZA {
-    uint64_t sum = svaddv(svptrue_pat_b8(SV_VL16), svld1(svptrue_pat_b8(SV_VL16), bytes));
+    svbool_t some = svptrue_pat_b8(SV_VL16);
+    svuint8_t from = svld1(some, bytes);
+#ifdef INSTEAD
+    uint64_t sum;
+    svuint64_t vector;
+    __asm__("uaddv %d1, %2, %3.b\n\tlasta %x0, %4, %1.d" : "=r"(sum), "=&w"(vector) : "Upl"(some), "w"(from), "Upl"(svpfalse_b()));
+#else
+    uint64_t sum = svaddv(some, from);
+#endif
     sums[0] = sum;
 }
 #elif ROUTINE == 8 // ZA kept over a call that has one of its own
@@ -110,9 +126,9 @@ void work(void) ZA {
 #elif ROUTINE == 10 // an atomic load before the product
 void work(void) ZA {
     svzero_za();
-    uint64_t from = __c11_atomic_load((_Atomic uint64_t *)bytes, __ATOMIC_ACQUIRE) & 127;
+    uint64_t from = __atomic_load_n((uint64_t *)bytes, __ATOMIC_ACQUIRE) & 127;
     svint8_t a = svld1(svptrue_pat_b8(SV_VL16), (int8_t *)bytes), b = svld1(svptrue_pat_b8(SV_VL16), (int8_t *)bytes + from);
     svmopa_za32_m(0, svptrue_b8(), svptrue_b8(), a, b);
-    for (uint32_t row = 0; row < 4; row++) put(row);
+    ROWS(row) put(row);
 }
 #endif

@@ -1,5 +1,6 @@
 #!/bin/sh
-# Makes the program: with clang, 18 or later, and lld, all its parts; with GCC, 12 or later, and GNU ld those without streaming code.
+# Makes the program: with clang, 18 or later, and lld, or with GCC, 14 or later, and GNU ld, all its parts; with GCC 12 or 13 those
+# without streaming code.
 #
 #     examples/c/build.sh clang-19 ld.lld-19 PROGRAM
 #     examples/c/build.sh aarch64-linux-gnu-gcc aarch64-linux-gnu-ld PROGRAM
@@ -16,12 +17,15 @@ case $compiler in
 *clang*)
     compiler="$compiler --target=aarch64-linux-gnu"
     scalar="-DMATRIX" vectors="-mno-implicit-float"
-    $compiler $options -march=armv8.1-a+sme+sme-i16i64 -mno-implicit-float -c "$from/matrix.c" -o "$work/matrix.o"
     ;;
 *)
     scalar="" vectors="-fno-tree-vectorize"
+    [ "$($compiler -dumpversion | cut -d. -f1)" -lt 14 ] || scalar="-DMATRIX"
     ;;
 esac
+if [ -n "$scalar" ]; then
+    $compiler $options -march=armv8.1-a+sme+sme-i16i64 $vectors -c "$from/matrix.c" -o "$work/matrix.o"
+fi
 $compiler $options -march=armv8.1-a -mgeneral-regs-only $scalar -c "$from/main.c" -o "$work/main.o"
 $compiler $options -march=armv8.1-a+sve2 $vectors -c "$from/vectors.c" -o "$work/vectors.o"
 $compiler -c "$from/start.s" -o "$work/start.o"

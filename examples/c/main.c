@@ -36,7 +36,7 @@ static void call_multiply(int32_t *c, const int8_t *a, const int8_t *b, const st
     register int32_t *x0 __asm__("x0") = c;
     register const int8_t *x1 __asm__("x1") = a, *x2 __asm__("x2") = b;
     register const struct sizes *x3 __asm__("x3") = sizes;
-    __asm__ volatile("smstart\n\tbl multiply\n\tsmstop"
+    __asm__ volatile(".arch_extension sme\n\tsmstart\n\tbl multiply\n\tsmstop"
                      : "+r"(x0), "+r"(x1), "+r"(x2), "+r"(x3)
                      :
                      : "x4", "x5", "x6", "x7", "x8", "x9", "x10", "x11", "x12", "x13", "x14", "x15", "x16", "x17", "x18", "x30", "cc", "memory");

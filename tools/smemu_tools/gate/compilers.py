@@ -1,7 +1,7 @@
 """Tells which options of compilers make programs that smemu runs: the table of docs/FROM_C.md.
 
     tools/smemu-tools compilers [--qemu QEMU] [--smemu SMEMU] [--kind scalar|vector|stream]
-    [--words] [--jobs N]
+    [--compiler NAME] [--words] [--jobs N]
 
 Compiles each routine of bench/c by each compiler that is installed and each set of options, and
 links it alone. A program counts as loaded where `smemu dis` takes it; one that is loaded runs at
@@ -15,6 +15,7 @@ import argparse
 import collections
 import concurrent.futures
 import os
+import pathlib
 import re
 import shutil
 import subprocess
@@ -26,30 +27,32 @@ from smemu_tools import TOOL, TOP
 
 SOURCES = TOP / "bench" / "c"
 CLANG, GCC = ("clang-19", "--target=aarch64-linux-gnu"), ("aarch64-linux-gnu-gcc",)
-LINKERS = {CLANG: "ld.lld-19", GCC: "aarch64-linux-gnu-ld"}
+GCC_14 = ("aarch64-linux-gnu-gcc-14",)
+LINKERS = {CLANG: "ld.lld-19", GCC: "aarch64-linux-gnu-ld", GCC_14: "aarch64-linux-gnu-ld"}
 ALWAYS = "-ffreestanding -fno-pic -w"
-BOTH = (CLANG, GCC)
+GCCS = (GCC, GCC_14)
+ALL = (CLANG, *GCCS)
 SETS = [
-    ("scalar", BOTH, "-O2"),
-    ("scalar", BOTH, "-O3 -march=armv8.1-a+sve2"),
-    *(("scalar", BOTH, f"-{level} -march=armv8.1-a -mgeneral-regs-only")
+    ("scalar", ALL, "-O2"),
+    ("scalar", ALL, "-O3 -march=armv8.1-a+sve2"),
+    *(("scalar", ALL, f"-{level} -march=armv8.1-a -mgeneral-regs-only")
       for level in ("O0", "O1", "O2", "O3", "Os")),
     ("scalar", (CLANG,), "-O2 -march=armv8.1-a+sve2 -mno-implicit-float"),
-    ("scalar", (GCC,), "-O2 -march=armv8.1-a+sve2 -fno-tree-vectorize"),
-    ("scalar", BOTH, "-O2 -march=armv8-a -mgeneral-regs-only"),
-    ("scalar", BOTH, "-O2 -march=armv9-a -mgeneral-regs-only"),
-    ("scalar", (CLANG,), "-O2 -march=armv9.4-a -mgeneral-regs-only"),
-    ("vector", BOTH, "-O2 -march=armv8.1-a+sve2"),
+    ("scalar", GCCS, "-O2 -march=armv8.1-a+sve2 -fno-tree-vectorize"),
+    ("scalar", ALL, "-O2 -march=armv8-a -mgeneral-regs-only"),
+    ("scalar", ALL, "-O2 -march=armv9-a -mgeneral-regs-only"),
+    ("scalar", (CLANG, GCC_14), "-O2 -march=armv9.4-a -mgeneral-regs-only"),
+    ("vector", ALL, "-O2 -march=armv8.1-a+sve2"),
     ("vector", (CLANG,), "-O2 -march=armv8.1-a+sve2 -mno-implicit-float"),
-    ("vector", (GCC,), "-O2 -march=armv8.1-a+sve2 -fno-tree-vectorize"),
+    ("vector", GCCS, "-O2 -march=armv8.1-a+sve2 -fno-tree-vectorize"),
     ("vector", (CLANG,), "-O2 -march=armv8.1-a+sve2 -mno-implicit-float -DINSTEAD"),
-    ("vector", (GCC,), "-O2 -march=armv8.1-a+sve2 -fno-tree-vectorize -DINSTEAD"),
+    ("vector", GCCS, "-O2 -march=armv8.1-a+sve2 -fno-tree-vectorize -DINSTEAD"),
     ("stream", (CLANG,), "-O2 -march=armv9-a+sme -DCALLED=0"),
-    ("stream", (CLANG,), "-O2 -march=armv9-a+sme -DCALLED=0 -mno-implicit-float"),
     ("stream", (CLANG,), "-O2 -march=armv9-a+sme -DCALLED=1 -mno-implicit-float"),
     ("stream", (CLANG,), "-O2 -march=armv8.1-a+sme+sme-i16i64 -DCALLED=1"),
-    *(("stream", (CLANG,),
-       f"-{level} -march=armv8.1-a+sme+sme-i16i64 -DCALLED=1 -mno-implicit-float")
+    *(("stream", (compiler,), f"-{level} -march=armv8.1-a+sve2+sme+sme-i16i64 {own} {form}")
+      for compiler, own in ((CLANG, "-mno-implicit-float"), (GCC_14, "-fno-tree-vectorize"))
+      for form in ("-DCALLED=0", "-DCALLED=1", "-DCALLED=1 -DINSTEAD", "-DCALLED=0 -DINSTEAD -DFILTERED")
       for level in ("O0", "O1", "O2", "O3", "Os")),
 ]
 
@@ -65,15 +68,28 @@ def refused_words(smemu: Any, program: Any) -> Any:
     return [line.split(": ", 1)[1].split()[0] for line in lines if line.startswith("0x")]
 
 
+def compiled(name: Any, compiler: Any, options: Any, source: Any, number: Any) -> Any:
+    """Makes NAME.o of a routine, with FILTERED without the saves of d8 to d15."""
+    command = [*compiler, *ALWAYS.split(), *options.split(), f"-DROUTINE={number}"]
+    if "FILTERED" not in options:
+        return not said(*command, "-c", str(source), "-o", f"{name}.o").returncode
+    made = said(*command, "-S", str(source), "-o", "-")
+    filtered = subprocess.run([str(TOP / "examples/c/mode_saves.py")], input=made.stdout,
+                              capture_output=True, text=True)
+    pathlib.Path(f"{name}.s").write_text(filtered.stdout)
+    march = re.search(r"-march=\S+", options)[0]
+    return not made.returncode and not said(*compiler, march, "-c", f"{name}.s", "-o",
+                                            f"{name}.o").returncode
+
+
 def trial(asked: Any, folder: Any, kind: Any, compiler: Any, options: Any, number: Any) -> Any:
     """What became of a routine: a word, and the mnemonics that were refused."""
     name = f"{folder}/{kind}-{number}-{abs(hash((compiler, options)))}"
-    command = [*compiler, *ALWAYS.split()]
-    if said(*command, *options.split(), f"-DROUTINE={number}", "-c", str(SOURCES / f"{kind}.c"),
-            "-o", f"{name}.o").returncode:
+    if not compiled(name, compiler, options, SOURCES / f"{kind}.c", number):
         return "not compiled", []
-    objects = [f"{folder}/start.o", *[f"{folder}/za.o"] * (kind == "stream"), f"{name}.o"]
-    if said(LINKERS[compiler], "-static", "-z", "max-page-size=4096", "-o", name,
+    objects = [f"{folder}/start.o", f"{name}.o",
+               *[f"{folder}/{it}.o" for it in ("za", "sc") if kind == "stream"]]
+    if said(LINKERS[compiler], "-static", "--gc-sections", "-z", "max-page-size=4096", "-o", name,
             *objects).returncode:
         return "not linked", []
     if said(asked.smemu, "dis", name).returncode:
@@ -95,10 +111,11 @@ def main() -> None:
     parser.add_argument("--qemu", default="qemu-aarch64")
     parser.add_argument("--smemu", default=str(TOP / "smemu"))
     parser.add_argument("--kind", choices=("scalar", "vector", "stream"))
+    parser.add_argument("--compiler", choices=[it[0] for it in ALL])
     parser.add_argument("--words", action="store_true")
     parser.add_argument("--jobs", type=int, default=os.cpu_count())
     asked = parser.parse_args()
-    compilers = [it for it in BOTH if shutil.which(it[0])]
+    compilers = [it for it in ALL if shutil.which(it[0]) and asked.compiler in (None, it[0])]
     for words in [(it[0], "--version") for it in compilers] + [(asked.qemu, "--version"),
                                                                (asked.smemu, "--version")]:
         print(said(*words).stdout.splitlines()[0])
@@ -106,8 +123,8 @@ def main() -> None:
               for kind in ("scalar", "vector", "stream")}
     refused = collections.defaultdict(set)
     with tempfile.TemporaryDirectory() as folder, concurrent.futures.ThreadPoolExecutor(asked.jobs) as pool:
-        said(*compilers[0], "-c", str(TOP / "examples/c/start.s"), "-o", f"{folder}/start.o")
-        said(*compilers[0], "-c", str(TOP / "examples/c/za.s"), "-o", f"{folder}/za.o")
+        for name in ("start", "za", "sc"):
+            said(*compilers[0], "-c", str(TOP / f"examples/c/{name}.s"), "-o", f"{folder}/{name}.o")
         for kind, having, options in (it for it in SETS if asked.kind in (None, it[0])):
             for compiler in (it for it in having if it in compilers):
                 numbers = range(1, counts[kind] + 1)

@@ -33,9 +33,10 @@ PAGES = ("README.md",
                "LOST_ZA", "PROFILE", "LAZY_SAVING", "COMMAND", "CHECKPOINT", "VECTORS", "CI",
                "FIND_IT", "INSTALL")))
 # tools that a command may need, and of some the least version
-TOOLS = {"clang-19": 0, "ld.lld-19": 0, "aarch64-linux-gnu-gcc": 0, "aarch64-linux-gnu-ld": 0,
-         "qemu-aarch64": 10, "llvm-symbolizer-19": 0, "parallel": 0, "man": 0, "xz": 0,
-         "gdb-multiarch": 0, "cmake": 0, "ctest": 0, "meson": 0,
+TOOLS = {"clang-19": 0, "ld.lld-19": 0, "aarch64-linux-gnu-gcc": 0,
+         "aarch64-linux-gnu-gcc-14": 0, "aarch64-linux-gnu-ld": 0, "qemu-aarch64": 10,
+         "llvm-symbolizer-19": 0, "parallel": 0, "man": 0, "xz": 0, "gdb-multiarch": 0,
+         "cmake": 0, "ctest": 0, "meson": 0,
          "/usr/lib/llvm-19/build/utils/lit/lit.py": 0}
 # of these, those that start Clang and lld by files that the command does not show
 BUILDERS = {"cmake", "ctest", "meson", "/usr/lib/llvm-19/build/utils/lit/lit.py"}

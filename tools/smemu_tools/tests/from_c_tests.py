@@ -18,7 +18,7 @@ import shutil
 import tempfile
 from typing import Any
 
-from smemu_tools import TOP, parser
+from smemu_tools import TOOL, TOP, parser
 from smemu_tools.tests import beside_tests
 from smemu_tools.user import emulator
 
@@ -269,6 +269,70 @@ def try_routines(tests: Any, pair: tuple[str, str]) -> None:
                     case in kept_faults(tests, link_routines(tests, pair, folder), 256), True)
 
 
+def try_rows(tests: Any, pair: tuple[str, str]) -> None:
+    """What is to be written for instructions that are not listed is right at each length, and
+    `refused` names it for each of them."""
+    source = TOP / "bench/c/rows.c"
+    program = build(tests, pair, "rows", [source], "-DINSTEAD", "-w")
+    for bits in LENGTHS:
+        tests.check(f"rows by {pair[0]} at {bits}", outcome(tests, program, "--vl", bits)[0],
+                    "exited 0")
+    said = tests.run(TOOL, "refused", build(tests, pair, "unlisted", [source], "-w"))[1]
+    told = dict(re.findall(r"^([a-z]\w*) \d+: (.*)$", said, re.M))
+    tests.check(f"told of each mnemonic by {pair[0]}",
+                (sorted(set(re.findall(r"^0x\w+ 0x\w+ \w+: (\w+)", said, re.M)) - {*told}),
+                 len(told) > 10), ([], True))
+
+
+# a function of float that nobody calls, and one that main calls where CALLED is there
+FLOATS = """float twice(float x) { return x + x; }
+int main(void) {
+#ifdef CALLED
+    volatile float x = 2;
+    return (int)twice(x);
+#endif
+    return 5;
+}
+"""
+
+
+def try_floats(tests: Any, pair: tuple[str, str]) -> None:
+    """A function of float does no harm where it is not called, by the options of the page."""
+    source = tests.path("floats.c")
+    source.write_text(FLOATS)
+    options = ("-mabi=aapcs-soft", "-march=armv8.1-a+nofp+nosimd", "-ffunction-sections")
+    command = (pair[0], "--target=aarch64-linux-gnu", "-O2", "-ffreestanding", "-fno-pic")
+    for called, wanted in ((), (0, "exited 5")), (("-DCALLED",), (1, "")):
+        tests.run(*command, *options, *called, "-c", source, "-o", tests.path("floats.o"))
+        tests.run(*command, "-c", TOP / "examples/c/start.s", "-o", tests.path("start.o"))
+        program = tests.path("floats.elf")
+        status, _ = tests.run(pair[1], "-static", "--gc-sections", "-o", program,
+                              tests.path("start.o"), tests.path("floats.o"))
+        stop = "" if status else outcome(tests, program)[0]
+        tests.check(f"float by {pair[0]} {called}", (status, stop), wanted)
+
+
+# what samples/library/modes.c writes, by hand
+MODES = "21 10\n22\n34\n7 13\n13\n108 10 9\n"
+
+
+def try_modes(tests: Any, pair: tuple[str, str], levels: Any = ("O2",)) -> None:
+    """Functions that change the mode by the compiler's own code; without the filter they are
+    refused."""
+    for level in levels:
+        program = build(tests, pair, "modes", [SAMPLES / "modes.c"], f"-{level}")
+        for bits, other in ((128, 128), (256, 512), (2048, 128), (128, 2048)):
+            tests.check(f"modes by {pair[0]} -{level} at {bits} and {other}",
+                        outcome(tests, program, "--vl", bits, "--svl", other), ("exited 0", MODES))
+    folder = tests.path("unfiltered")
+    shutil.copytree(TOP / "examples/c", folder)
+    (folder / "mode_saves.py").write_text("#!/bin/sh\nexec cat\n")
+    program = build(tests, pair, "unfiltered", [SAMPLES / "modes.c"], library=folder / "library")
+    tests.check(f"refused without the filter, of {pair[0]}",
+                tests.run(tests.smemu, "run", program)[1].startswith("bad file: unlisted"), True)
+    shutil.rmtree(folder)
+
+
 def main() -> int:
     words = parser(__doc__)
     words.add_argument("program", nargs="?", metavar="PROGRAM")
@@ -280,8 +344,13 @@ def main() -> int:
             try_beside(tests, pair)
             try_print(tests, pair)
             try_heap(tests, pair)
+            try_rows(tests, pair)
+            if pair[0] != "aarch64-linux-gnu-gcc":  # version 12, which knows no streaming code
+                try_modes(tests, pair)
             if not number:
                 try_routines(tests, pair)
+                if "clang" in pair[0]:
+                    try_floats(tests, pair)
                 try_threads(tests, pair)
                 try_faults(tests, pair)
     print(f"from_c_tests: {tests.number} checks, {tests.faults} failed")
