@@ -25,7 +25,7 @@ OTHERS = {
     "rows": ("lane-steps", "make-rows", "marked-calls", "vector-edges", "vector-files", "vector-lines", "word-steps"),
     "gate": ("build", "compilers", "copies", "cores", "count", "edges", "lint", "make-table", "mnemonics", "pages", "release",
              "sizes", "times", "wrong-bodies"),
-    "tests": ("beside-tests", "changed-files", "command-tests", "doc-tests", "fault-tests", "from-c-tests", "host-tests",
+    "tests": ("beside-tests", "changed-files", "command-tests", "doc-tests", "elsewhere", "fault-tests", "from-c-tests", "host-tests",
               "install-tests", "plant-faults", "profile-tests", "random-loops", "random-vectors", "refuse-growth",
               "script-tests", "self-test", "stress", "ticket-lock"),
 }
