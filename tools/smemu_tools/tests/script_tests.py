@@ -593,7 +593,7 @@ WRITTEN = (("fmov x0, d0", "`fmov x0, d0`"), ("stp d15, d14, [sp, #-64]!", "`stp
            ("brkb p0.b, p1/z, p2.b", "`ldff1b`"), ("prfm pldl1keep, [x0]", "`prfm`"), ("prfb pldl1keep, p0, [x0]", "`prfm`"), ("ldaxr w0, [x1]", "`ldaxr`"), ("stlxrb w0, w1, [x2]", "`ldaxr`"),
            ("ldaprb w0, [x1]", "`ldaxr`"), ("stlur x0, [x1, #8]", "`ldaxr`"), ("ldaxp x0, x1, [x2]", "`ldaxr`"), ("crc32b w0, w1, w2", "`crc32b`"), ("cnt x0, x1", "`crc32b`"), ("umin x0, x1, x2", "`crc32b`"),
            ("fadd z0.s, z0.s, z1.s", "all of"), ("add v0.4s, v1.4s, v2.4s", "all of"), ("ld1 { v0.16b }, [x0]", "all of"), ("str q0, [x0]", "all of"), ("stur d0, [x0, #-8]", "all of"),
-           ("scvtf d0, x1", "all of"), ("dup v0.16b, w1", "all of"), ("ldg x0, [x1]", None), ("dc cvac, x0", None), ("match p0.b, p0/z, z0.b, z1.b", None))
+           ("scvtf d0, x1", "all of"), ("dup v0.16b, w1", "all of"), ("ldg x0, [x1]", None), ("dc cvac, x0", None), ("match p0.b, p0/z, z0.b, z1.b", "`match`"), ("fmov w14, s27", "`fmov w14, s27`"), ("str s31, [x0]", "`fmov w14, s27`"))
 
 
 def writing():
