@@ -4,8 +4,8 @@ of docs/FROM_C.md.
     tools/smemu-tools elsewhere [--folder FOLDER] [--there] [PROGRAM]
 
 What is not on this machine is fetched from Debian by apt-get, which needs no right of the system:
-its lists and packages go to FOLDER, or to one that is removed. With --there nothing is fetched. A
-row whose code or compiler is not to be had is a line that says what lacks; the status is 1 where
+its lists and packages go to FOLDER, or to one that is removed. GCC 14, where it is not on the PATH,
+is that of a root of Debian 13, which root alone can make. With --there nothing is fetched. A row whose code or compiler is not to be had is a line that says what lacks; the status is 1 where
 one that ran is not as it is to be.
 """
 from __future__ import annotations
@@ -124,7 +124,45 @@ def llvm(tests: Any, packages: Packages) -> str:
     return f"{whole_programs(tests, CLANG, library)}; all registers kept as AAPCS64 has it"
 
 
+# starts GCC 14 in a root of Debian 13, which sees the folders that are named in a name space of
+# mounts of this call alone
+IN_ROOT = """#!/bin/sh
+exec unshare -m sh -c 'root="{root}"
+for folder in {folders}; do
+    mkdir -p "$root$folder"
+    mount --bind "$folder" "$root$folder" || exit 99
+done
+where=$1
+shift
+exec chroot "$root" sh -c '\\''cd "$1" && shift && exec {name} "$@"'\\'' sh "$where" "$@"' sh "$PWD" "$@"
+"""
+
+
+def make_gcc_14(tests: Any, packages: Packages) -> None:
+    """Makes a root of Debian 13 with GCC 14, and puts a script that starts it there on the PATH."""
+    name, root = GCC_14[0], packages.folder / "trixie"
+    if packages.is_there_only:
+        raise Lacking(f"{name} is not there")
+    if os.geteuid():
+        raise Lacking(f"{name} is not there, and a root of Debian 13 that has it is made by root")
+    need("debootstrap", "unshare", "chroot", GCC_14[1])
+    if not (root / "usr/bin" / name).exists():
+        said = subprocess.run(["debootstrap", "--variant=minbase",
+                               "--include=gcc-14-aarch64-linux-gnu", "trixie", str(root),
+                               "http://deb.debian.org/debian"], capture_output=True, text=True)
+        if said.returncode:
+            raise Lacking(f"debootstrap: {(said.stdout.splitlines() or ['failed'])[-1]}")
+    script = packages.folder / "bin" / name
+    script.parent.mkdir(exist_ok=True)
+    folders = f'"{TOP}" "{tempfile.gettempdir()}"'
+    script.write_text(IN_ROOT.format(root=root, folders=folders, name=name))
+    script.chmod(0o755)
+    os.environ["PATH"] = tests.environment["PATH"] = f"{os.environ['PATH']}:{script.parent}"
+
+
 def gcc_14(tests: Any, packages: Packages) -> str:
+    if not shutil.which(GCC_14[0]):
+        make_gcc_14(tests, packages)
     need(*GCC_14)
     said = whole_programs(tests, GCC_14, "")
     return f"{said}; with LLVM's routines {whole_programs(tests, GCC_14, routines_of(packages))}"
@@ -194,7 +232,8 @@ def kernel_program(tests: Any, source: pathlib.Path, name: str, *options: str,
 
 
 def moving_plan(tests: Any) -> pathlib.Path:
-    """A plan by which each of eight threads goes to another of three cores after 97 turns."""
+    """A plan by which each of eight threads goes to another of three cores after 97 turns, until
+    all have stopped at 200,000 instructions."""
     plan = tests.path("moves.plan")
     plan.write_text("".join(f"fetch {core}\nrun {core} 97\noffer {core}\n"
                             for core in (number % 3 for number in range(MOVES))))
@@ -214,7 +253,7 @@ def kernel_run(tests: Any, program: pathlib.Path, what: str, *options: Any,
     said = [bytes.fromhex("".join(re.findall(r"^out (\w+)$", block, re.M))).decode()
             for block in blocks]
     stops = {re.search(r"^stop (.*)$", block, re.M)[1] for block in blocks}
-    tests.check(f"{what}: stops", stops <= {"budget", "exited 0", "none"}, True)
+    tests.check(f"{what}: stops", stops <= {"budget", "exited 0"}, True)
     if "posts" in what:
         # thread 0 posts to all others
         taken = [bool(re.search(r"^e poll \d+ \w+ \w+ 0{14}20$", it, re.M)) for it in blocks]
@@ -247,7 +286,8 @@ def linux(tests: Any, packages: Packages) -> str:
     for bits in (128, 512):
         what = f"za-test moved at {bits}"
         rounds[what] = kernel_run(tests, program, what, "--vl", bits, "--svl", bits,
-                                  "--threads", 8, "--cores", 3, start=("sim", plan))
+                                  "--threads", 8, "--cores", 3, "--budget", 200000,
+                                  start=("sim", plan))
     tests.check("each test goes round", [it for it, count in rounds.items() if not count], [])
     return ("no mismatch in 2,000,000 instructions of each of eight threads, nor where handlers of "
             "ours that use ZA come in, nor where a plan moves each thread to another core after 97 "

@@ -593,7 +593,12 @@ WRITTEN = (("fmov x0, d0", "`fmov x0, d0`"), ("stp d15, d14, [sp, #-64]!", "`stp
            ("brkb p0.b, p1/z, p2.b", "`ldff1b`"), ("prfm pldl1keep, [x0]", "`prfm`"), ("prfb pldl1keep, p0, [x0]", "`prfm`"), ("ldaxr w0, [x1]", "`ldaxr`"), ("stlxrb w0, w1, [x2]", "`ldaxr`"),
            ("ldaprb w0, [x1]", "`ldaxr`"), ("stlur x0, [x1, #8]", "`ldaxr`"), ("ldaxp x0, x1, [x2]", "`ldaxr`"), ("crc32b w0, w1, w2", "`crc32b`"), ("cnt x0, x1", "`crc32b`"), ("umin x0, x1, x2", "`crc32b`"),
            ("fadd z0.s, z0.s, z1.s", "all of"), ("add v0.4s, v1.4s, v2.4s", "all of"), ("ld1 { v0.16b }, [x0]", "all of"), ("str q0, [x0]", "all of"), ("stur d0, [x0, #-8]", "all of"),
-           ("scvtf d0, x1", "all of"), ("dup v0.16b, w1", "all of"), ("ldg x0, [x1]", None), ("dc cvac, x0", None), ("match p0.b, p0/z, z0.b, z1.b", "`match`"), ("fmov w14, s27", "`fmov w14, s27`"), ("str s31, [x0]", "`fmov w14, s27`"))
+           ("scvtf d0, x1", "all of"), ("dup v0.16b, w1", "all of"), ("ldg x0, [x1]", None), ("dc cvac, x0", None), ("histcnt z0.s, p0/z, z1.s, z2.s", None),
+           ("fmov w12, s29", "`fmov w14, s27`"), ("fmov w12, s0", "`fmov x0, d0`"), ("match p0.b, p0/z, z0.b, z1.b", "`match`"), ("incp x2, p0.b", "`incp"), ("incp z0.h, p0.h", None),
+           ("ld1rqb { z0.b }, p0/z, [x0]", "`ld1rqb`"), ("rdffr p0.b, p1/z", "`rdffr"), ("shadd z0.b, p0/m, z0.b, z1.b", "`uhadd`"), ("srhadd z0.b, p0/m, z0.b, z1.b", "`urhadd`"),
+           ("movprfx z0.s, p0/z, z1.s", "`movprfx"), ("sqxtunb z0.b, z1.h", "`sqxtunb`"), ("uqxtnt z0.b, z1.h", "`sqxtunb`"), ("sqrshrnb z0.b, z1.h, #4", "`sqrshrnb`"), ("sqrshrunt z0.b, z1.h, #4", "`sqrshrnb`"),
+           ("shrnb z0.b, z1.h, #4", "`sqrshrnb`"), ("sadalp z0.h, p0/m, z1.b", "`uadalp`"), ("ssubwt z0.h, z0.h, z1.b", "`uaddwb`"), ("ushllt z0.h, z1.b, #0", "`ushllb`"), ("ssublb z0.h, z1.b, z2.b", "`usublb`"),
+           ("sqshl z0.h, p0/m, z0.h, z1.h", "`srshl`"), ("urshlr z0.h, p0/m, z0.h, z1.h", "`srshl`"), ("asrr z0.h, p0/m, z0.h, z1.h", "`asrr`"))
 
 
 def writing():

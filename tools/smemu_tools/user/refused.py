@@ -43,7 +43,7 @@ FROM_C = TOP / "docs" / "FROM_C.md"
 # what objdump's text looks like, and with what the row of FROM_C.md begins that says what to write;
 # the first that fits
 ROWS = [(re.compile(pattern), row) for pattern, row in (
-    (r"(fmov w1[2-5], s\d+$|(str|ldr) s\d+, )", "`fmov w14, s27`"),
+    (r"fmov w1[2-5], s(1[6-9]|[23]\d)", "`fmov w14, s27`"),
     (r"fmov [wx]\d+, [hsd]\d+", "`fmov x0, d0`"),
     (r"(stp|ldp) d(8|9|1[0-5]), ", "`stp d15, d14, ..`"),
     (r"incp x", "`incp x2, p0.b`"),
