@@ -218,12 +218,12 @@ def registers(tests: Any, program: Any, bits: int) -> Any:
 
 
 def low_halves(held: Any) -> Any:
-    """What the base rules keep of vectors, whose last digits are those of the first elements."""
-    return {name: text[-16:] for name, text in held.items()
+    """What the base rules keep of vectors, whose first digits are those of the first elements."""
+    return {name: text[:16] for name, text in held.items()
             if name in {f"z {number}" for number in range(8, 16)}}
 
 
-def kept_faults(tests: Any, program: Any, bits: int, ours: Any = True) -> Any:
+def kept_faults(tests: Any, program: Any, bits: int) -> Any:
     """The cases whose routine changes what it is to keep, or does not answer what it is to."""
     blocks = registers(tests, program, bits)
     faults = set()
@@ -236,7 +236,7 @@ def kept_faults(tests: Any, program: Any, bits: int, ours: Any = True) -> Any:
                       11: (bits // 64,)}.get(number, ())
             if wanted != tuple(int(here.get(f"x {at}", "0"), 16) for at in range(len(wanted))):
                 faults.add(number)
-            if not here["stop"] == there["stop"]:
+            if here["stop"] != there["stop"]:
                 faults.add(number)
             if number in CHANGE_VECTORS and low_halves(here) != low_halves(there):
                 faults.add(number)
