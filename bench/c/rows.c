@@ -222,6 +222,7 @@ static int try_usubl(void) {
     PLAIN(i, bytes[2 * i] - more[2 * i], 65535);
 }
 
+#define BY(i) ((bytes[i] - 128) >> 4)
 static int try_sshl(void) {
     HALVES(i) {
         svbool_t p = svwhilelt_b16_u64(i, COUNT);
@@ -241,9 +242,10 @@ static int try_sshl(void) {
         svst1(p, (int16_t *)made + i, a);
     }
 #ifdef INSTEAD
-    PLAIN(i, (bytes[i] - 128) >> 4 < 0 ? halves[i] >> -((bytes[i] - 128) >> 4) : halves[i] * (1 << ((bytes[i] - 128) >> 4)), 65535);
+    PLAIN(i, BY(i) < 0 ? halves[i] >> -BY(i) : halves[i] * (1 << BY(i)), 65535);
 #else
-    PLAIN(i, (bytes[i] - 128) >> 4 < 0 ? (halves[i] & ~255) >> -((bytes[i] - 128) >> 4) : (halves[i] & ~255) * (1 << ((bytes[i] - 128) >> 4)), 65535);
+#define SHORT(i) (halves[i] & ~255)
+    PLAIN(i, BY(i) < 0 ? SHORT(i) >> -BY(i) : SHORT(i) * (1 << BY(i)), 65535);
 #endif
 }
 
@@ -277,8 +279,10 @@ static int try_st2h(void) {
     return 0;
 }
 
-static int (*const trials[])(void) = {try_incp,   try_match,    try_ld1rq, try_rdffr, try_uhadd, try_urhadd, try_zeroing, try_sqxtunb, try_uadalp,
-                                      try_uaddwb, try_sqrshrnb, try_uxtl,  try_usubl, try_sshl,  try_ld1r,   try_st2h};
+static int (*const trials[])(void) = {
+    try_incp,    try_match,  try_ld1rq,  try_rdffr,    try_uhadd, try_urhadd, try_zeroing, try_sqxtunb,
+    try_uadalp,  try_uaddwb, try_sqrshrnb, try_uxtl,   try_usubl, try_sshl,   try_ld1r,    try_st2h,
+};
 
 int main(void) {
     uint64_t seed = 88172645463325252;

@@ -5,8 +5,9 @@ of docs/FROM_C.md.
 
 What is not on this machine is fetched from Debian by apt-get, which needs no right of the system:
 its lists and packages go to FOLDER, or to one that is removed. GCC 14, where it is not on the PATH,
-is that of a root of Debian 13, which root alone can make. With --there nothing is fetched. A row whose code or compiler is not to be had is a line that says what lacks; the status is 1 where
-one that ran is not as it is to be.
+is that of a root of Debian 13, which root alone can make. With --there nothing is fetched. A row
+whose code or compiler is not to be had is a line that says what lacks; the status is 1 where one
+that ran is not as it is to be.
 """
 from __future__ import annotations
 
@@ -134,7 +135,8 @@ for folder in {folders}; do
 done
 where=$1
 shift
-exec chroot "$root" sh -c '\\''cd "$1" && shift && exec {name} "$@"'\\'' sh "$where" "$@"' sh "$PWD" "$@"
+inside="cd \\"\\$1\\" && shift && exec {name} \\"\\$@\\""
+exec chroot "$root" sh -c "$inside" sh "$where" "$@"' sh "$PWD" "$@"
 """
 
 
@@ -176,8 +178,9 @@ def glibc(tests: Any, packages: Packages) -> str:
     shutil.copytree(TOP / "examples/c", work)
     # the object is linked with all others of the library's build.sh
     script = work / "library/build.sh"
-    script.write_text(script.read_text().replace(
-        'objects=$(echo "$work"/*.o)', f'objects=$(echo "$work"/*.o "{tests.folder}/memcpy_a64fx.o")'))
+    made = tests.path("memcpy_a64fx.o")
+    script.write_text(script.read_text().replace('$(echo "$work"/*.o)',
+                                                 f'$(echo "$work"/*.o "{made}")'))
     program = from_c_tests.build(tests, GCC, "copies", [from_c_tests.SAMPLES / "copies.c"],
                                  "-DCOPY=__memcpy_a64fx", "-DMOVE=__memmove_a64fx",
                                  "-fno-builtin", library=work / "library")

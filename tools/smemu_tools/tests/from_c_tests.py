@@ -56,8 +56,8 @@ CHANGE_VECTORS = range(12, 16)
 # a file of the routines, a text in it, a wrong one, and the number of the case that tells it
 WRONG_ROUTINES = (
     ("za.s", "ldr za[w15, 0], [x14]\n", "ldr za[w15, 0], [x14]\n        sub w16, w16, #1\n", 5),
-    ("za.s", "restore:\n        cmp w15, w16\n", "restore:\n        add w14, w15, #1\n        cmp w14, w16\n",
-     5),
+    ("za.s", "restore:\n        cmp w15, w16\n",
+     "restore:\n        add w14, w15, #1\n        cmp w14, w16\n", 5),
     ("za.s", "#0xc000000000000000", "#0x8000000000000000", 10),
     ("za.s", "cntd x0", "cntw x0", 11),
     ("za.s", "        smstop za\n", "        smstop\n", 8),
@@ -181,7 +181,8 @@ def try_heap(tests: Any, pair: tuple[str, str]) -> None:
 
 def try_threads(tests: Any, pair: tuple[str, str]) -> None:
     """Without the lock or the barrier a count is lost in one of five orders at least."""
-    for option, wanted in (("-DLOCK", {"0"}), ("-DNOLOCK", {"0", "1"}), ("-DNOMEETING", {"0", "1"})):
+    lost = {"0", "1"}
+    for option, wanted in (("-DLOCK", {"0"}), ("-DNOLOCK", lost), ("-DNOMEETING", lost)):
         program = build(tests, pair, "threads", [SAMPLES / "threads.c"], option)
         stops = set()
         for slice_ in (1, 3, 7, 50, 1000):
@@ -217,12 +218,12 @@ def registers(tests: Any, program: Any, bits: int) -> Any:
 
 
 def low_halves(held: Any) -> Any:
-    """What the base rules keep of vectors, whose last digits are those of the first elements."""
-    return {name: text[-16:] for name, text in held.items()
+    """What the base rules keep of vectors, whose first digits are those of the first elements."""
+    return {name: text[:16] for name, text in held.items()
             if name in {f"z {number}" for number in range(8, 16)}}
 
 
-def kept_faults(tests: Any, program: Any, bits: int, ours: Any = True) -> Any:
+def kept_faults(tests: Any, program: Any, bits: int) -> Any:
     """The cases whose routine changes what it is to keep, or does not answer what it is to."""
     blocks = registers(tests, program, bits)
     faults = set()
@@ -235,7 +236,7 @@ def kept_faults(tests: Any, program: Any, bits: int, ours: Any = True) -> Any:
                       11: (bits // 64,)}.get(number, ())
             if wanted != tuple(int(here.get(f"x {at}", "0"), 16) for at in range(len(wanted))):
                 faults.add(number)
-            if not here["stop"] == there["stop"]:
+            if here["stop"] != there["stop"]:
                 faults.add(number)
             if number in CHANGE_VECTORS and low_halves(here) != low_halves(there):
                 faults.add(number)
