@@ -25,3 +25,4 @@ pub mod LooseState
 pub mod LooseParts
 pub mod Loose
 pub mod Advance
+pub mod View

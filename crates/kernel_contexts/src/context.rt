@@ -8,6 +8,7 @@ ghost use Rattle.kernel_contexts.specs.Owner.{owns};
 
 use crate::guest::GuestThread;
 use crate::handlers::handler_of;
+use crate::view::StateView;
 use machine_step::{Halts, Machine, Made};
 use mem_access::Bank;
 use paged_memory::Image;
@@ -77,6 +78,7 @@ pub struct Finished {
 impl Context {
     ghost use Rattle.std.specs.FinMap.{get};
     ghost use Rattle.kernel_contexts.specs.State.{start_state};
+    ghost use Rattle.kernel_contexts.specs.View.{state_seen};
     ghost use Rattle.kernel_contexts.specs.HandlerTable.{handlers_of};
     ghost use Rattle.kernel_contexts.specs.Context.{state_of, config_of, thread_of, stop_of, machine_of};
     ghost use Rattle.kernel_contexts.specs.Context.{save_area_of, image_of, journal_of, IsSameThread};
@@ -236,6 +238,14 @@ impl Context {
         ensures { result.now ≡ image_of self.now }
     {
         &self.image
+    }
+
+    /// Its state.
+    pub fn view(&self) -> StateView<'_>
+        requires home { is_home self.now ≡ true }
+        ensures { state_seen result ≡ state_of self.now }
+    {
+        self.guest.view(&self.save_area)
     }
 
     /// The options with which the thread started.

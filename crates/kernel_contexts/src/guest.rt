@@ -20,6 +20,7 @@ use crate::guest::watch::{watch_after, watch_past};
 use crate::handlers::{Addresses, no_handlers};
 use crate::kernel::depth_limit;
 use crate::kernel_call::RETURN;
+use crate::view::StateView;
 use machine_step::{Decoder, Halts, Machine, Made, StepEnd, write_streaming};
 use mem_access::Bank;
 use paged_memory::{Image, Pages};
@@ -95,6 +96,7 @@ impl GuestThread {
     ghost use Rattle.kernel_contexts.specs.Context.{held_state, bare_state, guest_turn, guest_instruction};
     ghost use Rattle.kernel_contexts.specs.SaveArea.{IsFit, ComesBack};
     ghost use Rattle.mem_access.specs.VectorState.{zero_bank};
+    ghost use Rattle.kernel_contexts.specs.View.{state_seen};
     ghost use Rattle.kernel_contexts.specs.GuestThread.{guest_state, guest_events, IsFromStart};
     ghost use Rattle.std.specs.Prelude.{◌&&◌, ◌==◌, slice_index};
     ghost use Rattle.kernel_contexts.specs.KernelCall.{return_number};
@@ -160,6 +162,27 @@ impl GuestThread {
             earlier: 0,
             begun: 0,
         })
+    }
+
+    /// Its state, with the vectors and ZA of a bank.
+    pub fn view<'a>(&'a self, bank: &'a Bank) -> StateView<'a>
+        ensures seen { state_seen result ≡ held_state self.now bank.now }
+        ensures bank { result.bank.now ≡ bank.now }
+        ensures machine { result.machine.now ≡ self.now.machine }
+        ensures handlers { length result.handlers.now ≡ 63 }
+    {
+        StateView {
+            machine: &self.machine,
+            bank,
+            count: self.count,
+            turns: self.turns,
+            held: self.held,
+            mask: self.mask,
+            depth: self.depth,
+            polled: self.polled,
+            handlers: &self.handlers,
+            output: self.output.as_slice(),
+        }
     }
 
     /// The events that it made so far, from the start of its journal.

@@ -13,6 +13,7 @@ mod laws;
 mod loose;
 mod loose_bank;
 mod loose_state;
+mod view;
 mod whole;
 
 pub use context::{Context, Finished, Turn, is_owned};
@@ -21,4 +22,5 @@ pub use laws::{
 };
 pub use loose::Loose;
 pub use loose_state::{Handler, Handlers, LooseState};
+pub use view::StateView;
 pub use whole::Whole;

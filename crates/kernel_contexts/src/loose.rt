@@ -1,5 +1,5 @@
 //! The state of a guest thread that no run vouches for, and its turns.
-ghost use Rattle.std.specs.Prelude.{◌≡◌, ◌≤◌, length, None, IfOk, true};
+ghost use Rattle.std.specs.Prelude.{◌≡◌, ◌<◌, ◌≤◌, length, None, IfOk, true};
 ghost use Rattle.sm_types.specs.declared.limits.TheConstants.{JOURNAL_LIMIT};
 ghost use Rattle.kernel_contexts.specs.SaveArea.{IsSaveArea};
 
@@ -8,8 +8,10 @@ use crate::guest::GuestThread;
 use crate::handlers::handler_of;
 use crate::loose_bank::bank_of;
 use crate::loose_state::LooseState;
+use crate::view::StateView;
 use machine_step::{Halts, Machine, Made};
 use mem_access::Bank;
+use paged_memory::Image;
 use shared_region::Port;
 use sm_types::{Config, Memory};
 use std::alloc::Global;
@@ -26,11 +28,34 @@ pub struct Loose {
 impl Loose {
     ghost use Rattle.std.specs.FinMap.{get};
     ghost use Rattle.kernel_contexts.specs.HandlerTable.{handlers_of};
+    ghost use Rattle.kernel_contexts.specs.State.{start_state};
+    ghost use Rattle.kernel_contexts.specs.View.{state_seen};
     ghost use Rattle.kernel_contexts.specs.LooseState.{IsLooseState, HasFields};
     ghost use Rattle.kernel_contexts.specs.Loose.{loose_state, loose_config, loose_thread, loose_events};
     ghost use Rattle.kernel_contexts.specs.Loose.{loose_stop, loose_machine, loose_bank};
     ghost use Rattle.kernel_contexts.specs.Advance.{AdvancesLoose, AdvancesSeveralLoose};
     ghost use Rattle.shared_region.specs.Tickets.{IsTicketOf, GivesEvents};
+
+    /// The thread of that number before its first turn, with its pages and the bank of its vectors taken at
+    /// once. `Memory` is want of memory.
+    #[tactic(auto, unfolding(mem_access::specs::VectorState::zero_bank))]
+    pub fn start(
+        alloc: Global,
+        image: &Image,
+        config: &Config,
+        thread: u32,
+    ) -> Result<Loose, Memory>
+        requires { thread < config.now.threads }
+        ensures state { IfOk result (λ l. loose_state l ≡ start_state image.now config.now thread) }
+        ensures config { IfOk result (λ l. loose_config l ≡ config.now) }
+        ensures thread { IfOk result (λ l. loose_thread l ≡ thread) }
+        ensures events { IfOk result (λ l. loose_events l ≡ 0) }
+        ensures stop { IfOk result (λ l. loose_stop l ≡ None) }
+    {
+        let guest = GuestThread::start(alloc, image, config, thread)?;
+        let bank = Bank::new(alloc, config.vl, config.svl)?;
+        Ok(Loose { guest, bank })
+    }
 
     /// The thread that stands in the state of these fields, with these options, after so many events of its
     /// journal. `Memory` is want of memory.
@@ -68,6 +93,13 @@ impl Loose {
     {
         self.guest
             .make_several_turns(&mut self.bank, halts, false, most)
+    }
+
+    /// Its state.
+    pub fn view(&self) -> StateView<'_>
+        ensures { state_seen result ≡ loose_state self.now }
+    {
+        self.guest.view(&self.bank)
     }
 
     /// The options of the thread's run.
