@@ -1,6 +1,6 @@
 -- The state of one guest thread at a count as a file: the bytes of a state, and which files are read as
 -- one.
-use Rattle.std.specs.Prelude.{◌≡◌, ℕ, ◌*◌, ◌/◌, ◌^◌, ◌<◌, All, if◌then◌else◌, Bool, List, [], ◌∷◌, ◌++◌}
+use Rattle.std.specs.Prelude.{◌≡◌, ℕ, ◌/◌, ◌^◌, ◌<◌, All, if◌then◌else◌, Bool, List, [], ◌∷◌, ◌++◌}
 use Rattle.std.specs.Prelude.{length, map}
 use Rattle.std.specs.List.{concat}
 use Rattle.std.specs.FinMap.{entries}
@@ -8,10 +8,11 @@ use Rattle.sm_types.specs.declared.numbers.Numbers.{Numbers}
 use Rattle.sm_types.specs.declared.scalars.Scalars.{Scalars}
 use Rattle.sve_vectors.specs.Predicates.{predicate_bytes}
 use Rattle.sve_vectors.specs.Registers.{VectorRegisters}
-use Rattle.paged_memory.specs.Memory.{AddressSpace, IsWhole, bytes_from}
+use Rattle.paged_memory.specs.Memory.{IsWhole}
 use Rattle.machine_step.specs.System.{nzcv_of, svcr_of}
 use Rattle.signal_frames.specs.Law.{IsInRange}
 use Rattle.kernel_contexts.specs.State.{State}
+unfoldable pub use Rattle.kernel_contexts.specs.Fields.{pages_in}
 use Rattle.report_reader.specs.Report.{Report}
 use Rattle.field_table.specs.Table.{IsFilled}
 use Rattle.ckpt_fields.specs.Rows.{checkpoint_table}
@@ -31,10 +32,6 @@ vector_values r = r.vectors ++ (map predicate_bytes r.predicates ++ predicate_by
 -- the vectors of ZA, where it is on
 abbrev pub array_values : Bool → List (List ℕ) → List (List ℕ)
 array_values on za = if on then za else []
-
--- the pages of a memory, by their addresses
-unfoldable pub pages_in : AddressSpace → List (ℕ × ℕ × List ℕ)
-pages_in m = map (λ e. (4096 * e.0, e.1, bytes_from m.mem (4096 * e.0) 4096)) (entries m.perm)
 
 -- what the registers, the kernel's records and the memory of a state come to
 unfoldable pub state_values : State → List (List ℕ)

@@ -19,3 +19,5 @@ pub mod LooseParts
 pub mod Stances
 pub mod Nothing
 pub mod Fetched
+pub mod Fields
+pub mod LooseFields

@@ -26,3 +26,4 @@ pub mod LooseParts
 pub mod Loose
 pub mod Advance
 pub mod View
+pub mod Fields

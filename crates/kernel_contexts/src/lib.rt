@@ -18,7 +18,8 @@ mod whole;
 
 pub use context::{Context, Finished, Turn, is_owned};
 pub use laws::{
-    contexts_are_plain, contexts_are_runs, handlers_bring_back, masks_go_by_the_version,
+    contexts_are_plain, contexts_are_runs, fields_are_one, handlers_bring_back,
+    masks_go_by_the_version, plain_fields_are_one,
 };
 pub use loose::Loose;
 pub use loose_state::{Handler, Handlers, LooseState};
