@@ -7,17 +7,16 @@ use Rattle.sm_types.specs.declared.stop.Stop.{Stop}
 use Rattle.paged_memory.specs.Image.{Program}
 use Rattle.shared_region.specs.History.{AreOneHistory}
 use Rattle.kernel_contexts.specs.State.{State}
-use Rattle.kernel_contexts.specs.Run.{reach, Ended}
+use Rattle.kernel_contexts.specs.Run.{Ended}
+use Rattle.lone_runner.specs.End.{lone_end}
 use Rattle.kernel_contexts.specs.Context.{state_of, stop_of, thread_of, journal_of, is_home}
 use Rattle.kernel_contexts.specs.declared.context.Context.{Context}
 
 -- the thread's run over this journal ends in this state with this stop, and exactly the journal's events are
 -- used
-pub record IsLoneRun (program : Program) (config : Config) (thread : ℕ) (journal : List Event)
-    (state : State) (stop : Stop) : Type 0 where
-  pub turns : ℕ
-  pub used : ℕ
-  pub ends : reach program config thread journal turns ≡ Ended state stop used []
+abbrev pub IsLoneRun : Program → Config → ℕ → List Event → State → Stop → Type 0
+IsLoneRun program config thread journal state stop =
+    lone_end program config thread journal ≡ Ended state stop (length journal) []
 
 -- the context, which is home, is the thread of that number at the end of its run over its journal
 pub record HasRunAlone (program : Program) (config : Config) (thread : ℕ) (context : Context) : Type 0 where

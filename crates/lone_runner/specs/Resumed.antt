@@ -4,12 +4,13 @@ use Rattle.std.specs.Prelude.{◌≡◌, ℕ, ◌≤◌, ◌<◌, ◌^◌, List,
 use Rattle.sm_types.specs.declared.shared_op.Event.{Event}
 use Rattle.sm_types.specs.declared.stop.Stop.{Stop}
 use Rattle.shared_region.specs.Ports.{ReplayEvents}
+use Rattle.kernel_contexts.specs.State.{State}
 use Rattle.kernel_contexts.specs.Run.{Reached, Strays, turned, reach_from}
 use Rattle.kernel_contexts.specs.Standing.{standing}
 use Rattle.kernel_contexts.specs.Loose.{loose_state, loose_config, loose_thread, loose_events, loose_stop}
 use Rattle.kernel_contexts.specs.declared.loose.Loose.{Loose}
-use Rattle.lone_runner.specs.Parting.{unanswered, parting_at, state_at}
-use Rattle.lone_runner.specs.Rest.{IsRestOfRun, IsPartingFrom}
+use Rattle.lone_runner.specs.Parting.{unanswered, state_at}
+use Rattle.lone_runner.specs.End.{come_from, end_from}
 use Rattle.lone_runner.specs.declared.fault.AloneFault.{AloneFault}
 
 -- the ticket is that of its thread, and fewer than 2^32 events are ahead
@@ -36,49 +37,20 @@ pub record IsLooseAstray (loose : Loose) (ticket : ReplayEvents) (fault : AloneF
   pub strays : loose_next loose ticket ≡ Strays (loose_state loose) (loose_events loose) ticket.ahead
   pub told : fault ≡ unanswered (loose_state loose) (loose_events loose) ticket.ahead
 
--- where the thread is so many turns after its state, over these events
-abbrev pub resumed_at : Loose → List Event → ℕ → Reached
-resumed_at from events turns =
+-- where it ends over these events
+abbrev pub ends_over : Loose → List Event → Reached
+ends_over from events =
+    end_from (loose_config from) (loose_thread from) (loose_state from) (loose_events from) events
+
+-- where it comes to so many instructions, or ends before
+abbrev pub comes_over : Loose → List Event → ℕ → Reached
+comes_over from events bound =
+    come_from (loose_config from) (loose_thread from) (loose_state from) (loose_events from) events bound
+
+-- its place after so many turns over these events, and its states
+abbrev pub place_after : Loose → List Event → ℕ → Reached
+place_after from events turns =
     reach_from (loose_config from) (loose_thread from) (loose_state from) (loose_events from) events turns
 
--- the thread of another is on the way from that one over these events, after so many turns, at none of which
--- it parted
-pub record IsResuming (from : Loose) (events : List Event) (count : ℕ) (loose : Loose) (ticket : ReplayEvents)
-    : Type 0 where
-  pub turns : ℕ
-  pub at : resumed_at from events turns ≡ loose_place loose ticket None
-  pub none : (m : ℕ) → m ≤ turns → parting_at count (resumed_at from events m) ≡ None
-
--- it came to its end over exactly these events, with this stop, when so many instructions were counted
-pub record IsResumed (from : Loose) (events : List Event) (count : ℕ) (loose : Loose) (stop : Stop)
-    : Type 0 where
-  pub run : IsRestOfRun (loose_config from) (loose_thread from) (loose_state from) (loose_events from) events
-      (loose_state loose) stop
-  pub counts : (loose_state loose).count ≡ count
-
--- ---- to a count of instructions
-
--- the thread of another is on the way from that one over these events, and before its last turn fewer than so
--- many instructions were counted
-pub record IsComing (from : Loose) (events : List Event) (count : ℕ) (loose : Loose) (ticket : ReplayEvents)
-    : Type 0 where
-  pub way : IsResuming from events count loose ticket
-  pub below : (m : ℕ) → m < way.turns → (state_at (resumed_at from events m)).count < count
-  pub most : (loose_state loose).count ≤ count
-
--- it came to the place at which so many are counted, after the fewest turns, at none of which it parted; where
--- the last of them ended its run, it has this stop
-pub record IsReached (from : Loose) (events : List Event) (count : ℕ) (loose : Loose) (stop : Option Stop)
-    (ticket : ReplayEvents)
-    : Type 0 where
-  pub turns : ℕ
-  pub at : resumed_at from events turns ≡ loose_place loose ticket stop
-  pub counts : (loose_state loose).count ≡ count
-  pub below : (m : ℕ) → m < turns → (state_at (resumed_at from events m)).count < count
-  pub none : (m : ℕ) → m < turns → parting_at count (resumed_at from events m) ≡ None
-
--- it parts so from these events and from each count that is not below this one
-abbrev pub IsPartingFromAll : Loose → List Event → ℕ → AloneFault → Type 0
-IsPartingFromAll from events count fault =
-    (last : ℕ) → count ≤ last → IsPartingFrom (loose_config from) (loose_thread from) (loose_state from)
-    (loose_events from) events last fault
+abbrev pub states_over : Loose → List Event → ℕ → State
+states_over from events turns = state_at (place_after from events turns)

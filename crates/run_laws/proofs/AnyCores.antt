@@ -1,5 +1,5 @@
 -- The turns of a thread know nothing of the number of cores.
-use Rattle.std.proofs.Common.{◌≡◌, ℕ, zero, suc, ◌≤◌, ◌==◌, cond, List, Option, Some, None, refl, ap, ◌∙◌, subst}
+use Rattle.std.proofs.Common.{◌≡◌, ℕ, zero, suc, ◌==◌, cond, List, Option, Some, None, refl, ap, ◌∙◌, subst}
 use Rattle.sm_types.specs.declared.config.Config.{Config}
 use Rattle.sm_types.specs.declared.shared_op.Event.{Event}
 use Rattle.sm_types.specs.declared.stop.Stop.{Stop}
@@ -15,8 +15,9 @@ use Rattle.kernel_contexts.specs.State.{State, start_state}
 use Rattle.kernel_contexts.specs.Call.{Ends, call_of, post_of, return_of}
 use Rattle.kernel_contexts.specs.Turn.{turn_of, after_effect, handled, delivered_to, released, poll_of, lowest_signal}
 use Rattle.kernel_contexts.specs.Turn.{is_poll_due, is_delivery_due}
-use Rattle.kernel_contexts.specs.Run.{Reached, At, Ended, Strays, turned, after_turn, reach_from, reach}
+use Rattle.kernel_contexts.specs.Run.{Reached, At, Ended, Strays, turned, after_turn, reach_from}
 use Rattle.lone_runner.specs.LoneRun.{IsLoneRun}
+use Rattle.lone_runner.specs.End.{end_from, lone_end, most_turns}
 use Rattle.run_laws.specs.Options.{AreSameButCores}
 use Rattle.sm_types.proofs.Options.{same_numbers}
 
@@ -74,18 +75,14 @@ module _ (c d : Config) where
       ap (turned other thread) (same_reach_from thread s done journal turns)
       ∙ same_turned thread (reach_from c thread s done journal turns)
 
-  same_reach : (program : Program) (thread : ℕ) (journal : List Event) (turns : ℕ)
-      → reach program other thread journal turns ≡ reach program c thread journal turns
-  unfolding reach start_state
-  same_reach program thread journal turns = same_reach_from thread (start_state program c thread) 0 journal turns
+  same_end : (program : Program) (thread : ℕ) (journal : List Event)
+      → lone_end program other thread journal ≡ lone_end program c thread journal
+  unfolding end_from start_state
+  same_end program thread journal = same_reach_from thread (start_state program c thread) 0 journal (most_turns c)
 
 -- ---- a run
 
 pub same_run : (program : Program) (c d : Config) (thread : ℕ) (journal : List Event) (s : State) (p : Stop)
     → AreSameButCores c d → IsLoneRun program c thread journal s p → IsLoneRun program d thread journal s p
 same_run program c d thread journal s p same run =
-    subst (λ (e : Config). IsLoneRun program e thread journal s p) (are_others c d same) (record {
-      turns = run.turns;
-      used = run.used;
-      ends = same_reach c d program thread journal run.turns ∙ run.ends;
-    })
+    subst (λ (e : Config). IsLoneRun program e thread journal s p) (are_others c d same) (same_end c d program thread journal ∙ run)

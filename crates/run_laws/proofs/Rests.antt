@@ -1,8 +1,8 @@
 -- The events that are left at a place of a run are those of the journal that come after the ones that are used; so
 -- the rest of the run, over these, comes to what the run comes to.
-use Rattle.std.proofs.Common.{◌≡◌, inl, inr, ℕ, zero, suc, ◌+◌, ◌<◌, ◌≤◌, ◌++◌, List, [], ◌∷◌, length, refl, ap, sym, ◌∙◌}
+use Rattle.std.proofs.Common.{◌≡◌, inl, inr, ℕ, zero, suc, ◌+◌, ◌<◌, ◌≤◌, List, [], ◌∷◌, length, refl, ap, sym, ◌∙◌}
 use Rattle.std.proofs.Common.{subst, arith}
-use Rattle.std.proofs.Common.{append_assoc, length-append}
+use Rattle.std.proofs.Common.{length-append}
 use Rattle.std.specs.Prelude.{◌==◌, drop}
 use Rattle.std.proofs.lemmas.Bool.{cases_Bool, cond_both, eqb-true}
 use Rattle.std.proofs.lemmas.List.{drop_at}
@@ -20,64 +20,20 @@ use Rattle.kernel_contexts.specs.Turn.{turn_of}
 use Rattle.kernel_contexts.specs.Run.{Reached, At, Ended, Strays, turned, after_turn, reach_from, reach}
 use Rattle.kernel_contexts.proofs.Turns.{turn_spent}
 use Rattle.lone_runner.specs.LoneRun.{IsLoneRun}
-use Rattle.lone_runner.specs.Parting.{EndsAt, IsParting}
-use Rattle.lone_runner.specs.Rest.{EndsFrom, RestIsRest}
-use Rattle.lone_runner.specs.declared.fault.AloneFault.{AloneFault}
 use Rattle.lone_runner.proofs.Counted.{Counts, turn_counted}
-use Rattle.lone_runner.proofs.Partings.{ends_unless, ends_whole, reach_next, stays_so}
-use Rattle.lone_runner.proofs.Rests.{rest_is_rest}
+use Rattle.lone_runner.specs.End.{come_from, end_from, lone_end}
+use Rattle.lone_runner.proofs.Partings.{reach_next}
+use Rattle.lone_runner.proofs.Splits.{IsSplit, IsSplitAt, split_from}
+use Rattle.lone_runner.proofs.Lone.{lone_end_at, rest_ends_there}
+use Rattle.lone_runner.proofs.Firsts.{rest_comes_there}
 use Rattle.run_laws.specs.Rests.{ComesToTheRun}
-
--- the journal is some events, as many as are used, and those that are left
-record IsSplit (journal : List Event) (used : ℕ) (left : List Event) : Type 0 where
-  made : List Event
-  whole : journal ≡ made ++ left
-  counts : used ≡ length made
-
-abbrev IsSplitAt : List Event → Reached → Type 0
-IsSplitAt journal (At s used left) = IsSplit journal used left
-IsSplitAt journal (Ended s stop used left) = IsSplit journal used left
-IsSplitAt journal (Strays s used left) = IsSplit journal used left
-
-one_more : (journal : List Event) (used : ℕ) (event : Event) (left : List Event) → IsSplit journal used (event ∷ left)
-    → IsSplit journal (used + 1) left
-one_more journal used event left h =
-    let counts = h.counts in
-    let longer : length (h.made ++ event ∷ []) ≡ length h.made + 1 = length-append h.made (event ∷ []) in
-    record {
-      made = h.made ++ event ∷ [];
-      whole = h.whole ∙ sym (append_assoc h.made (event ∷ []) left);
-      counts = omega (arith, counts, longer);
-    }
-
-after : (journal : List Event) (s : State) (used : ℕ) (left : List Event) (end : TurnEnd) → IsSplit journal used left
-    → IsSplitAt journal (after_turn s used left end)
-after journal s used left (Goes t) h = h
-after journal s used left (Yields t) h = h
-after journal s used [] (Asks op next) h = h
-after journal s used (event ∷ left) (Asks op next) h =
-    cond_both (is_same_op op event.op) _ _ (IsSplitAt journal) (λ _. one_more journal used event left h) (λ _. h)
-after journal s used left (Ends t stop) h = h
-
-turn_on : (config : Config) (thread : ℕ) (journal : List Event) (r : Reached) → IsSplitAt journal r
-    → IsSplitAt journal (turned config thread r)
-turn_on config thread journal (At s used left) h = after journal s used left (turn_of config thread used s) h
-turn_on config thread journal (Ended s stop used left) h = h
-turn_on config thread journal (Strays s used left) h = h
-
-split_from : (config : Config) (thread : ℕ) (from : State) (journal : List Event) (turns : ℕ)
-    → IsSplitAt journal (reach_from config thread from 0 journal turns)
-unfolding reach_from
-split_from config thread from journal zero = record { made = []; whole = refl; counts = refl }
-split_from config thread from journal (suc turns) =
-    turn_on config thread journal (reach_from config thread from 0 journal turns) (split_from config thread from journal turns)
 
 module _ (program : Program) (config : Config) (thread : ℕ) (journal : List Event) (turns : ℕ) (from : State) (used : ℕ)
     (left : List Event) (at : reach program config thread journal turns ≡ At from used left)
   where
-    split : IsSplit journal used left
+    split : IsSplit 0 journal used left
     unfolding reach
-    split = subst (IsSplitAt journal) at (split_from config thread _ journal turns)
+    split = subst (IsSplitAt 0 journal) at (split_from config thread _ 0 journal turns)
 
     pub used_few : used ≤ length journal
     used_few =
@@ -87,32 +43,18 @@ module _ (program : Program) (config : Config) (thread : ℕ) (journal : List Ev
         omega (arith, counts, whole)
 
     pub left_after : left ≡ drop used journal
-    left_after = sym (ap (drop used) split.whole ∙ drop_at split.made left used (sym split.counts))
+    left_after =
+        let counts = split.counts in
+        let many : length split.made ≡ used = omega (arith, counts) in
+        sym (ap (drop used) split.whole ∙ drop_at split.made left used many)
 
-    rest : RestIsRest program config thread journal turns from used (drop used journal)
-    rest =
-        subst (RestIsRest program config thread journal turns from used) left_after
-        (rest_is_rest program config thread journal turns from used left at)
-
-    module _ (count : ℕ) (most : from.count ≤ count) where
-      not_parted : EndsFrom config thread from used (drop used journal) count → (fault : AloneFault)
-          → ¬ IsParting program config thread journal count fault
-      not_parted h fault =
-          ends_whole program config thread journal count fault
-          (record { state = h.state; stop = h.stop; run = rest.whole h.state h.stop h.run; counts = h.counts })
-
-      ended : ((fault : AloneFault) → ¬ IsParting program config thread journal count fault)
-          → EndsFrom config thread from used (drop used journal) count
-      ended none =
-          let h : EndsAt program config thread journal count = ends_unless program config thread journal count none in
-          record { state = h.state; stop = h.stop; run = rest.ends h.state h.stop h.run; counts = h.counts }
-
-      pub comes_to_the_run : ComesToTheRun program config thread journal from used count
-      comes_to_the_run = record {
-        ends = (not_parted, ended);
-        same = λ state stop. (rest.whole state stop, rest.ends state stop);
-        parts = λ fault. (rest.parted count fault most, rest.parts count fault most);
-      }
+    pub comes_to_the_run : ComesToTheRun program config thread journal from used
+    comes_to_the_run = record {
+      ends = ap (end_from config thread from used) (sym left_after)
+          ∙ rest_ends_there program config thread journal turns from used left at;
+      comes = λ count less. ap (λ (l : List Event). come_from config thread from used l count) (sym left_after)
+          ∙ rest_comes_there program config thread journal count turns from used left at less;
+    }
 
 -- ---- a run that ends at a higher count has not used up its budget
 
@@ -166,27 +108,15 @@ module _ (program : Program) (config : Config) (thread : ℕ) (journal : List Ev
     (end : IsLoneRun program config thread journal state stop) (less : from.count < state.count)
   where
     -- the turn at which the budget is used up ends the run
-    spent_so : from.count ≡ config.budget → reach program config thread journal (suc turns) ≡ Ended from Budget used left
+    spent_so : from.count ≡ config.budget → lone_end program config thread journal ≡ Ended from Budget used left
     spent_so is =
-        reach_next program config thread journal turns (At from used left) (Ended from Budget used left) at
-        (ap (after_turn from used left) (turn_spent config thread used from is))
+        lone_end_at program config thread journal (suc turns) (Ended from Budget used left) refl
+        (reach_next program config thread journal turns (At from used left) (Ended from Budget used left) at
+        (ap (after_turn from used left) (turn_spent config thread used from is)))
 
     not_spent : from.count ≡ config.budget → ⊥
     not_spent is =
-        let there = spent_so is in
-        let same : from ≡ state = elim (cases_lt_eq_gt (suc turns) end.turns) [
-          | inl before ↦
-              two_ends from state Budget stop used end.used left []
-              (sym (stays_so program config thread journal 0 (Ended from Budget used left) refl (suc turns) end.turns
-              (omega (arith, before)) there) ∙ end.ends)
-          | inr (inl now) ↦
-              two_ends from state Budget stop used end.used left []
-              (sym there ∙ ap (reach program config thread journal) now ∙ end.ends)
-          | inr (inr after) ↦
-              two_ends from state Budget stop used end.used left []
-              (sym there ∙ stays_so program config thread journal 0 (Ended state stop end.used []) refl end.turns (suc turns)
-              (omega (arith, after)) end.ends)
-        ] in
+        let same = two_ends from state Budget stop used (length journal) left [] (sym (spent_so is) ∙ end) in
         let counts : from.count ≡ state.count = ap (λ (s : State). s.count) same in
         omega (arith, counts, less)
 

@@ -45,11 +45,10 @@ pub fn events_come_in_order()
 {}
 
 /// A run that is made in two parts comes to what it comes to in one: from the state of a place at which the
-/// thread goes on, over the events of the journal after the ones that are used by then, to each count that is
-/// not below that of the place.
+/// thread goes on, over the events of the journal after the ones that are used by then.
 pub fn rests_come_to_the_run()
     ensures { (program : Program) (config : Config) (thread : ℕ) (journal : List Event) (turns : ℕ)
-        (from : State) (used : ℕ) (left : List Event) (count : ℕ)
-        → reach program config thread journal turns ≡ At from used left → from.count ≤ count
-        → ComesToTheRun program config thread journal from used count }
+        (from : State) (used : ℕ) (left : List Event)
+        → reach program config thread journal turns ≡ At from used left
+        → ComesToTheRun program config thread journal from used }
 {}

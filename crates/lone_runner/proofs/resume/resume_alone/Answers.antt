@@ -1,9 +1,8 @@
-use Rattle.std.proofs.Common.{◌≢◌, ◌<◌, ◌^◌, List, length, ap, sym, ◌∙◌, subst}
+use Rattle.std.proofs.Common.{◌≢◌, ◌≡◌, Some, ◌<◌, ◌^◌, List, length, ap, sym, ◌∙◌, subst}
 use Rattle.sm_types.specs.declared.shared_op.Event.{Event}
 use Rattle.shared_region.specs.Ports.{ReplayEvents}
-use Rattle.kernel_contexts.specs.Loose.{loose_state, loose_config, loose_thread, loose_events}
-use Rattle.lone_runner.specs.Rest.{IsPartingFrom}
-use Rattle.lone_runner.specs.Resumed.{IsResumed}
+use Rattle.lone_runner.specs.End.{parting_by}
+use Rattle.lone_runner.specs.Resumed.{ends_over}
 use Rattle.lone_runner.specs.declared.fault.AloneFault.{AloneFault}
 use Rattle.lone_runner.specs.declared.fault.AloneFault.TheVariants.{Memory}
 use Rattle.lone_runner.proofs.Given.{passed_on}
@@ -24,17 +23,13 @@ resume_to_end-requires c =
 pub returns-clause-run : goal.returns-clause-run
 returns-clause-run c =
     let ahead = ap (λ (t : ReplayEvents). t.ahead) c.new-ticket.ensures ∙ c.in_ok-events.ensures.items in
-    subst (λ (l : List Event). IsResumed c.args.loose l c.args.count c.resume_to_end.new.loose c.in_ok-stop.stop) ahead
-    c.in_ok-stop.ensures.run
+    ap (ends_over c.args.loose) (sym ahead) ∙ c.in_ok-stop.ensures.run
 
 pub returns-in_err-stop-clause-parts : goal.returns-in_err-stop-clause-parts
 returns-in_err-stop-clause-parts c =
-    let from = c.args.loose in
     let ahead = ap (λ (t : ReplayEvents). t.ahead) c.new-ticket.ensures ∙ c.in_ok-events.ensures.items in
     let fault = c.in_err-stop.field-0.0 in
     passed_on c.from_residual-in_err-stop.result fault
-    (λ (f : AloneFault). f ≢ Memory → IsPartingFrom (loose_config from) (loose_thread from) (loose_state from) (loose_events from)
-    c.args.rest.now c.args.count f)
+    (λ (f : AloneFault). f ≢ Memory → parting_by c.args.count (ends_over c.args.loose c.args.rest.now) ≡ Some f)
     c.from_residual-in_err-stop.ensures.1
-    (λ told. subst (λ (l : List Event). IsPartingFrom (loose_config from) (loose_thread from) (loose_state from) (loose_events from) l
-    c.args.count fault) ahead (c.in_err-stop.ensures.parts told))
+    (λ told. ap (λ (l : List Event). parting_by c.args.count (ends_over c.args.loose l)) (sym ahead) ∙ c.in_err-stop.ensures.parts told)
