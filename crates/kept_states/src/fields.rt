@@ -3,14 +3,13 @@ ghost use Rattle.std.specs.Prelude.{◌≡◌, ◌*◌, ◌^◌, ◌<◌, true, 
 ghost use Rattle.bit_ops.specs.Sums.{bool_number};
 ghost use Rattle.machine_step.specs.System.{nzcv_of};
 ghost use Rattle.kernel_contexts.specs.LooseState.{IsLooseState, HasScalars, HasVectors, HasKernel};
-ghost use Rattle.report_text.specs.View.{state_seen};
+ghost use Rattle.kernel_contexts.specs.View.{state_seen};
 ghost use Rattle.kept_states.specs.Fields.{IsOfThread, GoesOn};
 
 use crate::banks::{read_array, read_first_fault, read_predicates, read_vectors};
 use crate::handlers::list_handlers;
-use kernel_contexts::LooseState;
+use kernel_contexts::{LooseState, StateView};
 use machine_step::read_svcr;
-use report_text::StateView;
 use sm_types::{Config, Scalars};
 use std::alloc::{AllocError, Global};
 

@@ -5,14 +5,13 @@ ghost use Rattle.kernel_contexts.specs.LooseState.{IsLooseState, HasFields};
 ghost use Rattle.kernel_contexts.specs.Loose.{loose_state, loose_config, loose_thread, loose_events};
 ghost use Rattle.kernel_contexts.specs.Loose.{loose_stop};
 ghost use Rattle.kernel_contexts.specs.State.{State};
-ghost use Rattle.report_text.specs.View.{state_seen};
+ghost use Rattle.kernel_contexts.specs.View.{state_seen};
 ghost use Rattle.kept_states.specs.Fields.{IsOfThread, MayBeKept};
 ghost use Rattle.kept_states.specs.Pages.{ArePages};
 
 use crate::fields::{goes_on, read_fields};
 use crate::pages::{SharedPage, list_pages, share_pages};
-use kernel_contexts::{Context, Loose, LooseState};
-use report_text::StateView;
+use kernel_contexts::{Context, Loose, LooseState, StateView};
 use sm_types::{Config, Memory};
 use std::alloc::{AllocError, Global};
 
@@ -71,21 +70,9 @@ impl KeptState {
             IfNone found (¬ MayBeKept (config_of context.now) (state_of context.now))) }
     {
         let events = context.journal().len() as u32;
-        let view = StateView {
-            machine: context.machine(),
-            bank: context.bank(),
-            count: context.count(),
-            turns: context.turns(),
-            held: context.held(),
-            mask: context.mask(),
-            depth: context.depth(),
-            polled: context.polled(),
-            handlers: context.handlers(),
-            output: context.output(),
-        };
         KeptState::keep(
             alloc,
-            &view,
+            &context.view(),
             context.config(),
             context.thread(),
             events,
@@ -106,21 +93,9 @@ impl KeptState {
         ensures none { IfOk result (λ found.
             IfNone found (¬ MayBeKept (loose_config loose.now) (loose_state loose.now))) }
     {
-        let view = StateView {
-            machine: loose.machine(),
-            bank: loose.bank(),
-            count: loose.count(),
-            turns: loose.turns(),
-            held: loose.held(),
-            mask: loose.mask(),
-            depth: loose.depth(),
-            polled: loose.polled(),
-            handlers: loose.handlers(),
-            output: loose.output(),
-        };
         KeptState::keep(
             alloc,
-            &view,
+            &loose.view(),
             loose.config(),
             loose.thread(),
             loose.events(),

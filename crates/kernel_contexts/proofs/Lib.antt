@@ -21,3 +21,4 @@ pub mod Nothing
 pub mod Fetched
 pub mod Fields
 pub mod LooseFields
+pub mod Views

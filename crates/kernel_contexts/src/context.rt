@@ -78,7 +78,7 @@ pub struct Finished {
 impl Context {
     ghost use Rattle.std.specs.FinMap.{get};
     ghost use Rattle.kernel_contexts.specs.State.{start_state};
-    ghost use Rattle.kernel_contexts.specs.View.{state_seen};
+    ghost use Rattle.kernel_contexts.specs.View.{state_seen, IsOfOptions};
     ghost use Rattle.kernel_contexts.specs.HandlerTable.{handlers_of};
     ghost use Rattle.kernel_contexts.specs.Context.{state_of, config_of, thread_of, stop_of, machine_of};
     ghost use Rattle.kernel_contexts.specs.Context.{save_area_of, image_of, journal_of, IsSameThread};
@@ -242,8 +242,9 @@ impl Context {
 
     /// Its state.
     pub fn view(&self) -> StateView<'_>
-        requires home { is_home self.now ≡ true }
-        ensures { state_seen result ≡ state_of self.now }
+        requires { is_home self.now ≡ true }
+        ensures seen { state_seen result ≡ state_of self.now }
+        ensures options { IsOfOptions (config_of self.now) result }
     {
         self.guest.view(&self.save_area)
     }

@@ -29,7 +29,7 @@ impl Loose {
     ghost use Rattle.std.specs.FinMap.{get};
     ghost use Rattle.kernel_contexts.specs.HandlerTable.{handlers_of};
     ghost use Rattle.kernel_contexts.specs.State.{start_state};
-    ghost use Rattle.kernel_contexts.specs.View.{state_seen};
+    ghost use Rattle.kernel_contexts.specs.View.{state_seen, IsOfOptions};
     ghost use Rattle.kernel_contexts.specs.LooseState.{IsLooseState, HasFields};
     ghost use Rattle.kernel_contexts.specs.Loose.{loose_state, loose_config, loose_thread, loose_events};
     ghost use Rattle.kernel_contexts.specs.Loose.{loose_stop, loose_machine, loose_bank};
@@ -97,7 +97,8 @@ impl Loose {
 
     /// Its state.
     pub fn view(&self) -> StateView<'_>
-        ensures { state_seen result ≡ loose_state self.now }
+        ensures seen { state_seen result ≡ loose_state self.now }
+        ensures options { IsOfOptions (loose_config self.now) result }
     {
         self.guest.view(&self.bank)
     }

@@ -2,9 +2,10 @@
 
 use crate::memory::pages;
 use edge_io::{MemSink, Piece};
+use kernel_contexts::StateView;
 use machine_step::{Machine, StepEnd};
 use mem_access::Bank;
-use report_text::{StateView, put_lines};
+use report_text::put_lines;
 use shared_region::{ReplayPort, ReplayTicket};
 use sm_types::{Exception, Scalars, VecLen};
 use std::alloc::Global;

@@ -12,7 +12,7 @@ ghost use Rattle.report_text.specs.View.{block_seen};
 use crate::journal::put_journal;
 use crate::output::put_output;
 use crate::state::put_lines;
-use crate::view::{BlockView, StateView};
+use crate::view::BlockView;
 use edge_io::{Piece, PutFault, Sink};
 use kernel_contexts::{Context, Loose};
 use sm_types::{Event, Stop, Version};
@@ -107,11 +107,11 @@ pub fn write_state_block<K: Sink>(
         (block_text (version_of (loose_config loose.now)) (loose_thread loose.now) (loose_state loose.now)
         (Some stop) journal.now) }
 {
-    let view = BlockView {
+    let block = BlockView {
         thread: loose.thread(),
         stop: Some(stop),
-        state: StateView::of_loose(loose),
+        state: loose.view(),
         journal,
     };
-    write_view(loose.config().version(), &view, out)
+    write_view(loose.config().version(), &block, out)
 }

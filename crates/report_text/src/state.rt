@@ -4,11 +4,10 @@ ghost use Rattle.edge_io.specs.Pieces.{gathered, Gathers};
 ghost use Rattle.text_lines.specs.Forms.{name_of};
 ghost use Rattle.text_lines.specs.Rows.{rows_text};
 ghost use Rattle.report_text.specs.State.{rows_of, lines_text};
-ghost use Rattle.report_text.specs.View.{state_seen};
+ghost use Rattle.kernel_contexts.specs.View.{state_seen};
 
 use crate::bank::{put_array, put_ffr, put_predicates, put_vectors};
 use crate::digest::put_memory_line;
-use crate::view::StateView;
 use edge_io::{Piece, PutFault, Sink};
 use machine_step::read_svcr;
 use text_lines::{

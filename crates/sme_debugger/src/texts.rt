@@ -17,7 +17,7 @@ use insn_decode::decode;
 use insn_text::print_word;
 use kernel_contexts::Loose;
 use paged_memory::Pages;
-use report_text::{StateView, put_lines};
+use report_text::put_lines;
 use script_reader::{DebugCommand, Direction};
 use sm_types::{Access, Elem};
 use text_lines::{LineKind, hex64_digits};
@@ -69,7 +69,7 @@ fn put_state_lines<K: Sink>(
     ensures { Gathers (gathered (K.view out.old) piece.old) (gathered (K.view out.new) piece.new) result
         (lines_text (loose_state loose.now) kinds.now) }
 {
-    put_lines(piece, out, &StateView::of_loose(loose), kinds)
+    put_lines(piece, out, &loose.view(), kinds)
 }
 
 /// Whether ZA has a slice.

@@ -10,6 +10,11 @@ use Rattle.kept_states.proofs.FieldsRead.{nzcv_low, nzcv_word, modes_below, stre
 use Rattle.kept_states.proofs.FieldsRead.{no_page_list}
 use Rattle.kept_states.proofs.fields.read_fields.Goals as goal
 
+pub list_handlers-requires : goal.list_handlers-requires
+list_handlers-requires c =
+    let shown = c.requires.thread.shown in
+    record { count = shown.table; signals = shown.signals }
+
 pub returns-clause-fields : goal.returns-clause-fields
 returns-clause-fields c =
     let thread = c.requires.thread in
@@ -21,21 +26,21 @@ returns-clause-fields c =
     let on = streaming_told c.read_svcr.result machine.streaming machine.za_on svcr in
     let array = array_told c.read_svcr.result machine.streaming machine.za_on svcr in
     let long = same_length config.vl bank.vectors.vl config.svl bank.vectors.svl (bit_at c.read_svcr.result 0) bank.vectors.streaming
-    thread.lengths.vl thread.lengths.svl (thread.mode.streaming ∙ sym on) in
-    let svl : bank.za.svl ≡ config.svl = bank.one_length ∙ thread.lengths.svl in
+    thread.shown.lengths.vl thread.shown.lengths.svl (thread.shown.mode.streaming ∙ sym on) in
+    let svl : bank.za.svl ≡ config.svl = bank.one_length ∙ thread.shown.lengths.svl in
     record {
       numbers = record {
         thread = thread.number;
         count = goes.count;
         events = thread.few;
-        depth = thread.depth;
+        depth = thread.shown.depth;
         turns = goes.turns;
         flags = ap (λ n. n % 2 ^ 28) c.read_nzcv.ensures ∙ nzcv_low machine.scalars;
         word = subst (λ n. n < 2 ^ 32) (sym c.read_nzcv.ensures) (nzcv_word machine.scalars);
         modes = modes_below c.read_svcr.result machine.streaming machine.za_on svcr;
         signals = goes.signals;
         highest = goes.highest;
-        unmasked = thread.unmasked;
+        unmasked = thread.shown.unmasked;
       };
       vectors = c.in_ok-read_vectors.ensures.size ∙ ap (λ n. 32 * n) long;
       predicates = c.in_ok-read_predicates.ensures.size ∙ ap (λ n. 16 * (n / 8)) long;
@@ -43,7 +48,7 @@ returns-clause-fields c =
       array = c.in_ok-read_array.ensures.size
           ∙ same_array config.svl bank.za.svl (bit_at c.read_svcr.result 1) machine.za_on svl (sym array);
       handlers = c.in_ok-list_handlers.ensures.list;
-      output = subst (λ (l : _). length l ≤ OUTPUT_LIMIT) (sym c.in_ok-from_slice.ensures.items) thread.output;
+      output = subst (λ (l : _). length l ≤ OUTPUT_LIMIT) (sym c.in_ok-from_slice.ensures.items) thread.shown.output;
       pages = no_page_list c.new.result.items c.new.ensures.items;
     }
 
@@ -73,8 +78,8 @@ returns-clause-vectors c =
     let on = streaming_told c.read_svcr.result machine.streaming machine.za_on svcr in
     let array = array_told c.read_svcr.result machine.streaming machine.za_on svcr in
     let long = same_length config.vl bank.vectors.vl config.svl bank.vectors.svl (bit_at c.read_svcr.result 0) bank.vectors.streaming
-    thread.lengths.vl thread.lengths.svl (thread.mode.streaming ∙ sym on) in
-    let svl : bank.za.svl ≡ config.svl = bank.one_length ∙ thread.lengths.svl in
+    thread.shown.lengths.vl thread.shown.lengths.svl (thread.shown.mode.streaming ∙ sym on) in
+    let svl : bank.za.svl ≡ config.svl = bank.one_length ∙ thread.shown.lengths.svl in
     record {
       lengths = subst (λ n. AreOfLength n bank.vectors.registers) long c.length-length.ensures.registers;
       vectors = sym c.in_ok-read_vectors.ensures.value;
@@ -83,6 +88,6 @@ returns-clause-vectors c =
       square = subst (λ (l : VecLen). IsSquare (vector_bytes l) bank.za.vectors) svl c.size-size.ensures.square;
       array = λ is. c.in_ok-read_array.ensures.value (sym array ∙ is);
       off = λ is.
-          ap (λ (a : ArrayState). a.vectors) (thread.mode.off (sym array ∙ is))
+          ap (λ (a : ArrayState). a.vectors) (thread.shown.mode.off (sym array ∙ is))
           ∙ ap (λ (l : VecLen). zero_vectors (vector_bytes l)) svl;
     }

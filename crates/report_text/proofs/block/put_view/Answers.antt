@@ -1,7 +1,7 @@
 use Rattle.std.proofs.Common.{refl}
 use Rattle.edge_io.proofs.Gathering.{as_text, and_then, and_stop, and_end}
 use Rattle.text_lines.specs.Forms.{state_lines}
-use Rattle.report_text.specs.View.{state_seen}
+use Rattle.kernel_contexts.specs.View.{state_seen}
 use Rattle.report_text.proofs.Blocks.{block_is}
 use Rattle.report_text.proofs.block.put_view.Goals as goal
 

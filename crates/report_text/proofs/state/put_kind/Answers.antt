@@ -4,7 +4,7 @@ use Rattle.edge_io.proofs.Gathering.{as_text}
 use Rattle.text_lines.specs.Lines.{number_line, hex_line, flag_line, flags_line}
 use Rattle.text_lines.specs.Rows.{rows_text}
 use Rattle.text_lines.specs.declared.forms.LineKind.TheVariants as kind
-use Rattle.report_text.specs.View.{state_seen}
+use Rattle.kernel_contexts.specs.View.{state_seen}
 use Rattle.report_text.proofs.Handlers.{handler_rows_are}
 use Rattle.report_text.proofs.Lines.{kind_text, one_line}
 use Rattle.report_text.proofs.state.put_kind.Goals as goal

@@ -1,7 +1,7 @@
 use Rattle.std.proofs.Common.{arith}
 use Rattle.edge_io.proofs.Gathering.{sofar_start, sofar_more, sofar_stop, sofar_end}
 use Rattle.text_lines.specs.declared.forms.LineKind.TheVariants.{Turns}
-use Rattle.report_text.specs.View.{state_seen}
+use Rattle.kernel_contexts.specs.View.{state_seen}
 use Rattle.report_text.proofs.Lines.{lines_text-at, lines_text-end}
 use Rattle.report_text.proofs.state.put_lines.Goals as goal
 

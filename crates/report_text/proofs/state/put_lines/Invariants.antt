@@ -2,7 +2,7 @@ use Rattle.std.proofs.Common.{drop}
 use Rattle.edge_io.specs.Pieces.{gathered}
 use Rattle.edge_io.specs.Sofar.{SoFar}
 use Rattle.report_text.specs.State.{lines_text}
-use Rattle.report_text.specs.View.{state_seen}
+use Rattle.kernel_contexts.specs.View.{state_seen}
 use Rattle.report_text.proofs.state.put_lines.Given as goal
 
 abbrev pub invariant-loop-k : goal.invariant-loop-k
