@@ -1,5 +1,4 @@
 //! What is seen of a guest thread's state.
-ghost use Rattle.std.specs.Prelude.{◌≡◌, length};
 
 use machine_step::Machine;
 use mem_access::Bank;
