@@ -5,6 +5,7 @@ use Rattle.std.specs.Prelude.{◌/◌, slice_index, slice_index_or, if◌then◌
 use Rattle.std.specs.List.{flat_map}
 use Rattle.std.specs.FinMap.{entries}
 use Rattle.std.proofs.lemmas.List.{length-map}
+use Rattle.plain_lemmas.proofs.Lists.{append_inj}
 use Rattle.bit_ops.specs.Sums.{bool_number}
 use Rattle.byteorder.specs.Endian.{little_number, little_bytes}
 use Rattle.sm_types.specs.declared.numbers.Numbers.{Numbers}
@@ -14,7 +15,7 @@ use Rattle.paged_memory.specs.Memory.{bytes_from}
 use Rattle.machine_step.specs.System.{nzcv_of, svcr_of}
 use Rattle.kernel_contexts.specs.State.{State}
 use Rattle.kernel_contexts.specs.Fields as field
-use Rattle.kernel_contexts.specs.Fields.{Field, Value, Number, Truth, Numbers as Many, Rows, Bytes, Entries, Places, pages_in, value_of}
+use Rattle.kernel_contexts.specs.Fields.{Value, Number, Truth, Numbers as Many, Rows, Bytes, Entries, Places, pages_in}
 use Rattle.kernel_contexts.specs.Fields.{HaveSameFields, IsTold}
 use Rattle.kernel_contexts.proofs.Fields.{same_state as one_state, small_flag, modes_same}
 use Rattle.ckpt_fields.specs.Values.{first_values, option_values, thread_values, system_values, handler_value, handler_values}
@@ -112,17 +113,6 @@ length-entries : (es : List (ℕ × ℕ)) → length (flat_map handler_value es)
 length-entries [] = refl
 length-entries (e ∷ es) = let more = length-entries es in omega (arith, more)
 
-same_fronts : {A : Type 0} (v w more rest : List A) → length v ≡ length w → v ++ more ≡ w ++ rest → (v ≡ w) × (more ≡ rest)
-same_fronts [] [] more rest l e = (refl, e)
-same_fronts [] (y ∷ ys) more rest l e = absurd (omega (arith, l))
-same_fronts (x ∷ xs) [] more rest l e = absurd (omega (arith, l))
-same_fronts (x ∷ xs) (y ∷ ys) more rest l e =
-    let one : x ≡ y = cc in
-    let others : xs ++ more ≡ ys ++ rest = cc in
-    let long : length xs ≡ length ys = omega (arith, l) in
-    let same = same_fronts xs ys more rest long others in
-    ((λ i. one i ∷ same.0 i), same.1)
-
 -- bytes that begin with those of a value begin with those of no other
 split : (p : Both) (more rest : List (List ℕ)) → Fit p → left p ++ more ≡ right p ++ rest → (first p ≡ second p) × (more ≡ rest)
 unfolding output_values handler_values
@@ -130,14 +120,14 @@ split (OfNumber n a b) more rest h e = (ap Number (number_same n a b h.0 h.1 (ap
 split (OfTruth a b) more rest h e = (ap Truth (truth_same a b (ap (λ l. slice_index_or l 0 []) e)), ap (drop 1) e)
 split (OfMany a b) more rest h e =
     let long = length-map a (little_bytes 8) ∙ h.0 ∙ sym (length-map b (little_bytes 8)) in
-    let both = same_fronts (map (little_bytes 8) a) (map (little_bytes 8) b) more rest long e in
+    let both = append_inj (map (little_bytes 8) a) (map (little_bytes 8) b) more rest long e in
     (ap Many (numbers_same a b h.1 h.2 both.0), both.1)
-split (OfRows a b) more rest h e = let both = same_fronts a b more rest h e in (ap Rows both.0, both.1)
+split (OfRows a b) more rest h e = let both = append_inj a b more rest h e in (ap Rows both.0, both.1)
 split (OfBytes a b) more rest h e = (ap Bytes (ap (λ l. slice_index_or l 1 []) e), ap (drop 2) e)
 split (OfEntries a b) more rest h e =
     let count : length a ≡ length b = number_same 4 (length a) (length b) h.0 h.1 (ap (λ l. slice_index_or l 0 []) e) in
     let long = length-entries a ∙ ap (λ n. 2 * n) count ∙ sym (length-entries b) in
-    let both = same_fronts (flat_map handler_value a) (flat_map handler_value b) more rest long (ap (drop 1) e) in
+    let both = append_inj (flat_map handler_value a) (flat_map handler_value b) more rest long (ap (drop 1) e) in
     (ap Entries (entries_same a b h.2 h.3 both.0), both.1)
 
 -- ---- some fields, one after the other

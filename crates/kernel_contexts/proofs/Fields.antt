@@ -6,7 +6,7 @@ use Rattle.std.specs.FinMap.{FinMap, entries, get, get-entries, find, same_entri
 use Rattle.std.specs.Cmp.{nat_cmp_total}
 use Rattle.std.specs.Ordering.{nat_cmp, eq_by_cmp}
 use Rattle.std.proofs.lemmas.Bool.{cases_Bool}
-use Rattle.std.proofs.lemmas.Bool.Decides.{nat_tests}
+use Rattle.plain_lemmas.proofs.Tests.{eq_by_cmp-true}
 use Rattle.bit_ops.specs.Sums.{bool_number}
 use Rattle.sm_types.specs.declared.scalars.Scalars.{Scalars}
 use Rattle.sve_vectors.specs.Predicates.{predicate_bytes, truths_of}
@@ -149,9 +149,6 @@ numbers_of_pages mem other (g ∷ es) (f ∷ fs) e =
     let rest : es ≡ fs = numbers_of_pages mem other es fs (ap (drop 1) e) in
     λ i. (number i, flags i) ∷ rest i
 
-same_key : (q k : ℕ) → eq_by_cmp nat_cmp q k ≡ true → q ≡ k
-same_key q k e = grind (arith, nat_tests)
-
 -- the bytes of a page that is there are the same
 bytes_of_page : (mem other : FinMap nat_cmp ℕ) (n flags : ℕ) (es : List (ℕ × ℕ)) → map (page_parts mem) es ≡ map (page_parts other) es
     → find nat_cmp n es ≡ Some flags → bytes_from mem (4096 * n) 4096 ≡ bytes_from other (4096 * n) 4096
@@ -159,7 +156,7 @@ bytes_of_page mem other n flags [] e found = cc
 bytes_of_page mem other n flags (g ∷ es) e found = elim (cases_Bool (eq_by_cmp nat_cmp n g.0)) [
   | inl here ↦
       let first : page_parts mem g ≡ page_parts other g = ap (λ l. slice_index_or l 0 (page_parts mem g)) e in
-      let same : n ≡ g.0 = same_key n g.0 here in
+      let same : n ≡ g.0 = eq_by_cmp-true n g.0 here in
       ap (λ k. bytes_from mem (4096 * k) 4096) same ∙ ap (λ (p : ℕ × ℕ × List ℕ). p.2) first
       ∙ ap (λ k. bytes_from other (4096 * k) 4096) (sym same)
   | inr past ↦

@@ -1,12 +1,12 @@
 -- Two states that have the plain fields of one, and the same pages, are one.
-use Rattle.std.proofs.Common.{◌≡◌, ℕ, suc, ◌*◌, ◌/◌, ◌%◌, ◌<◌, ◌++◌, Bool, true, false, List, [], ◌∷◌, length, map}
-use Rattle.std.proofs.Common.{get_or, take, drop, All, refl, ap, sym, ◌∙◌, subst, arith, inl, inr}
+use Rattle.std.proofs.Common.{◌≡◌, ℕ, suc, ◌*◌, ◌/◌, ◌%◌, ◌<◌, Bool, true, false, List, [], ◌∷◌, length, map}
+use Rattle.std.proofs.Common.{get_or, drop, All, refl, ap, sym, ◌∙◌, subst, arith, inl, inr}
 use Rattle.std.specs.Prelude.{if◌then◌else◌}
 use Rattle.std.specs.List.{concat, flat_map}
 use Rattle.std.specs.FinMap.{FinMap, entries}
 use Rattle.std.specs.Ordering.{nat_cmp}
 use Rattle.std.proofs.lemmas.Bool.{cases_Bool}
-use Rattle.std.proofs.lemmas.List.{take_at, drop_at}
+use Rattle.plain_lemmas.proofs.Lists.{append_inj}
 use Rattle.sm_types.specs.declared.config.Config.{Config}
 use Rattle.sm_types.specs.declared.length.VecLen.{VecLen}
 use Rattle.paged_memory.specs.Memory.{IsWhole, bytes_from}
@@ -25,18 +25,11 @@ use Rattle.kernel_contexts.specs.LooseState.{HasScalars, HasVectors, HasKernel, 
 use Rattle.kernel_contexts.specs.LooseState.{loose_length}
 use Rattle.kernel_contexts.specs.declared.loose_state.LooseState.{LooseState}
 use Rattle.kernel_contexts.specs.Fields as field
-use Rattle.kernel_contexts.specs.Fields.{Field, Number, Truth, Numbers, Rows, Bytes, Entries, Places, pages_in, page_parts, HaveSameFields}
+use Rattle.kernel_contexts.specs.Fields.{Number, Truth, Numbers, Rows, Bytes, Entries, Places, pages_in, page_parts, HaveSameFields}
 use Rattle.kernel_contexts.specs.Fields.{IsTold}
 use Rattle.kernel_contexts.proofs.Fields.{same_state}
 
 -- ---- registers, one after the other
-
--- two lists that begin with as many, and go on
-same_front : (x y a b : List ℕ) → length x ≡ length y → x ++ a ≡ y ++ b → (x ≡ y) × (a ≡ b)
-same_front x y a b long e = (
-  sym (take_at x a (length x) refl) ∙ ap (take (length x)) e ∙ take_at y b (length x) (sym long),
-  sym (drop_at x a (length x) refl) ∙ ap (drop (length x)) e ∙ drop_at y b (length x) (sym long),
-)
 
 -- each has as many
 abbrev AreLong : {X : Type 0} → ℕ → List (List X) → Type 0
@@ -51,7 +44,7 @@ same_rows l [] (y ∷ ys) n f g e = absurd (omega (arith, n))
 same_rows l (x ∷ xs) [] n f g e = absurd (omega (arith, n))
 same_rows l (x ∷ xs) (y ∷ ys) n f g e =
     let long : length x ≡ length y = f 0 (omega arith) ∙ sym (g 0 (omega arith)) in
-    let both = same_front x y (concat xs) (concat ys) long e in
+    let both = append_inj x y (concat xs) (concat ys) long e in
     let rest = same_rows l xs ys (omega (arith, n)) (λ k h. f (suc k) (omega (arith, h))) (λ k h. g (suc k) (omega (arith, h))) both.1 in
     λ i. both.0 i ∷ rest i
 
@@ -64,7 +57,7 @@ same_predicates l (p ∷ ps) (q ∷ qs) n f g e =
     let same : length p ≡ length q = f 0 (omega arith) ∙ sym (g 0 (omega arith)) in
     let long : length (predicate_bytes p) ≡ length (predicate_bytes q) =
     length-predicate p ∙ ap (λ k. k / 8) same ∙ sym (length-predicate q) in
-    let both = same_front (predicate_bytes p) (predicate_bytes q) (flat_map predicate_bytes ps) (flat_map predicate_bytes qs) long e in
+    let both = append_inj (predicate_bytes p) (predicate_bytes q) (flat_map predicate_bytes ps) (flat_map predicate_bytes qs) long e in
     let rest = same_predicates l ps qs (omega (arith, n)) (λ k h. f (suc k) (omega (arith, h))) (λ k h. g (suc k) (omega (arith, h)))
     both.1 in
     λ i. both.0 i ∷ rest i

@@ -1,6 +1,5 @@
-use Rattle.std.proofs.Common.{true, ap, ◌∙◌}
-use Rattle.kernel_contexts.specs.GuestThread.{guest_state}
-use Rattle.kernel_contexts.proofs.Banks.{zero_held, zero_fits}
+use Rattle.std.proofs.Common.{true}
+use Rattle.kernel_contexts.proofs.Banks.{zero_fits}
 use Rattle.kernel_contexts.proofs.loose.Loose.start.Goals as goal
 
 pub invariant_of-result : goal.invariant_of-result
