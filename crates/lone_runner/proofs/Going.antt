@@ -1,5 +1,5 @@
 -- A thread that comes by its turns to so many instructions, or ends before.
-use Rattle.std.proofs.Common.{◌⊎◌, inl, inr, ◌≡◌, true, false, cond, ℕ, zero, suc, ◌+◌, ◌<◌, ◌≤◌, List, [], Option, Some, None, refl, ap, sym, ◌∙◌}
+use Rattle.std.proofs.Common.{◌⊎◌, inl, inr, ◌≡◌, ◌≢◌, true, false, cond, ℕ, zero, suc, ◌+◌, ◌<◌, ◌≤◌, List, [], Option, Some, None, refl, ap, sym, ◌∙◌}
 use Rattle.std.proofs.Common.{arith, subst}
 use Rattle.std.specs.Prelude.{nat_lt}
 use Rattle.std.proofs.lemmas.Bool.{cases_Bool}
@@ -42,6 +42,13 @@ few_by config thread used zero s t goes = let same = ap (λ (x : State). x.count
 few_by config thread used (suc k) s t goes =
     let before = few_by config thread used k s goes.0 goes.1 in
     let one = turn_most config thread used goes.0 t goes.2 in omega (arith, before, one)
+
+other_below : (a b : ℕ) → a ≤ b → a ≢ b → a < b
+other_below a b most other = elim (cases_lt_eq_gt a b) [
+  | inl less ↦ less
+  | inr (inl same) ↦ absurd (other same)
+  | inr (inr more) ↦ absurd (omega (arith, most, more))
+]
 
 not_strays : (s t : State) (u v : ℕ) (left rest : List Event) → ◌≡◌ {A = Reached} (At s u left) (Strays t v rest) → ⊥
 not_strays s t u v left rest e = cc
@@ -284,6 +291,52 @@ module _ (config : Config) (thread : ℕ) (from : State) (done : ℕ) (events : 
         ∙ sym (end_so (below (most_turns config)) (place (most_turns config))
         (ap (turned config thread) (sym comes ∙ is) ∙ same ∙ sym is ∙ comes))
         ∙ sym comes ∙ is
+
+    -- ---- the first place at which so many are counted
+
+    pub come_is_first : (n : ℕ) (r : Reached) → at n ≡ r → (state_at r).count ≡ bound
+        → ((m : ℕ) → m < n → (state_at (at m)).count ≢ bound) → come_from config thread from done events bound ≡ r
+    come_is_first n r is counts first =
+        let here = ap (λ (q : Reached). (state_at q).count) is in
+        let earlier : AreBelow n = λ m l.
+        let more = counts_later config thread at step m n (omega (arith, l)) in
+        other_below (counted_at m) bound (omega (arith, more, here, counts)) (first m l) in
+        comes_to n r (stays_so r (omega (arith, counts))) (below_is n earlier ∙ is)
+
+    first_by : (r : Reached) → IsPlace (most_turns config) r → (state_at r).count ≡ bound
+        → (n : ℕ) × (at n ≡ r) × ((m : ℕ) → m < n → (state_at (at m)).count ≢ bound)
+    first_by r (inl h) counts = (most_turns config, sym h.0, λ m l same. let less = h.1 m l in omega (arith, less, same))
+    first_by r (inr h) counts = (h.1, sym h.2, λ m l same. let less = h.3 m l in omega (arith, less, same))
+
+    pub first_of_come : (r : Reached) → come_from config thread from done events bound ≡ r → (state_at r).count ≡ bound
+        → (n : ℕ) × (at n ≡ r) × ((m : ℕ) → m < n → (state_at (at m)).count ≢ bound)
+    first_of_come r is counts =
+        first_by r (subst (IsPlace (most_turns config)) (sym comes ∙ is) (place (most_turns config))) counts
+
+    -- ---- a parting before that
+
+    short_low : (fault : AloneFault) (r : Reached) → short_of bound r ≡ Some fault → ((state_at r).count < bound) × (parting_at bound r ≡ Some fault)
+    short_low fault r e = elim (cases_Bool (nat_lt (state_at r).count bound)) [
+      | inl less ↦ (grind (arith, nat_tests), sym (ap (λ b. cond b (parting_at bound r) None) less) ∙ e)
+      | inr most ↦ absurd (none-some fault (sym (ap (λ b. cond b (parting_at bound r) None) most) ∙ e))
+    ]
+
+    last_by : (r : Reached) → IsPlace (most_turns config) r → (state_at r).count < bound → r ≡ at (most_turns config)
+    last_by r (inl h) less = h.0
+    last_by r (inr h) less = let most = h.0 in absurd (omega (arith, most, less))
+
+    pub is_short : (fault : AloneFault) → short_of bound (come_from config thread from done events bound) ≡ Some fault
+        → (parting_by bound (end_from config thread from done events) ≡ Some fault)
+        × ((m : ℕ) → (state_at (at m)).count ≢ bound)
+    is_short fault e =
+        let low = short_low fault (below (most_turns config)) (ap (short_of bound) (sym comes) ∙ e) in
+        let last = last_by (below (most_turns config)) (place (most_turns config)) low.0 in
+        let there = ap (λ (q : Reached). (state_at q).count) last in
+        let less = low.0 in (
+          ap (parting_by bound) (ends ∙ sym last)
+              ∙ under bound (below (most_turns config)) (omega (arith, less)) ∙ low.1,
+          λ m same. let more = grown m in omega (arith, more, there, less, same),
+        )
 
     -- ---- each count up to that of the end is come to
 
