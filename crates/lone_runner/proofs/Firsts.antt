@@ -1,12 +1,13 @@
--- Where a run comes to a count first, and how it parts before.
-use Rattle.std.proofs.Common.{◌≡◌, ◌≢◌, ◌↔◌, ℕ, ◌<◌, ◌≤◌, List, arith}
+-- Where a run, and the rest of one, comes to a count first, and how it parts before.
+use Rattle.std.proofs.Common.{◌≡◌, ◌≢◌, ◌↔◌, ℕ, ◌<◌, ◌≤◌, List, Some, arith}
 use Rattle.sm_types.specs.declared.config.Config.{Config}
 use Rattle.sm_types.specs.declared.shared_op.Event.{Event}
 use Rattle.paged_memory.specs.Image.{Program}
 use Rattle.kernel_contexts.specs.State.{State, start_state}
-use Rattle.kernel_contexts.specs.Run.{Reached, At, reach}
+use Rattle.kernel_contexts.specs.Run.{Reached, At, reach, reach_from}
 use Rattle.lone_runner.specs.Parting.{state_at}
-use Rattle.lone_runner.specs.End.{IsParting, IsPartingBefore, come_from, come_to, lone_end}
+use Rattle.lone_runner.specs.End.{IsParting, IsPartingBefore, come_from, come_to, lone_end, short_of}
+use Rattle.lone_runner.specs.Rest.{IsPartingFrom}
 use Rattle.lone_runner.specs.declared.fault.AloneFault.{AloneFault}
 use Rattle.lone_runner.proofs.Lone.{AreFew, few_alone}
 use Rattle.lone_runner.proofs.Going.{come_is_first, comes_counted, comes_on, first_of_come, is_short}
@@ -32,7 +33,7 @@ module _ (program : Program) (config : Config) (thread : ℕ) (journal : List Ev
   )
 
   pub parts_before : (fault : AloneFault) → IsPartingBefore program config thread journal count fault
-      → IsParting program config thread journal count fault
+      → ((later : ℕ) → count ≤ later → IsParting program config thread journal later fault)
       × ((turns : ℕ) → (state_at (reach program config thread journal turns)).count ≢ count)
   unfolding reach
   parts_before fault e = is_short config thread start 0 journal count few fault e
@@ -47,3 +48,18 @@ module _ (program : Program) (config : Config) (thread : ℕ) (journal : List Ev
   pub each_is_come_to : count ≤ (state_at (lone_end program config thread journal)).count
       → (state_at (come_to program config thread journal count)).count ≡ count
   each_is_come_to most = comes_counted config thread start 0 journal count few low most
+
+module _ (config : Config) (thread : ℕ) (from : State) (done : ℕ) (events : List Event) (few : AreFew config thread from done events)
+    (count : ℕ)
+  where
+    pub rest_comes_first : (r : Reached) → (state_at r).count ≡ count
+        → (come_from config thread from done events count ≡ r) ↔ ((turns : ℕ) × (reach_from config thread from done events turns ≡ r)
+        × ((earlier : ℕ) → earlier < turns → (state_at (reach_from config thread from done events earlier)).count ≢ count))
+    rest_comes_first r counts = (
+      λ is. first_of_come config thread from done events count few r is counts,
+      λ h. come_is_first config thread from done events count few h.0 r h.1 counts h.2,
+    )
+
+    pub rest_parts_before : (fault : AloneFault) → short_of count (come_from config thread from done events count) ≡ Some fault
+        → (later : ℕ) → count ≤ later → IsPartingFrom config thread from done events later fault
+    rest_parts_before fault e = (is_short config thread from done events count few fault e).0

@@ -18,15 +18,15 @@ use Rattle.kernel_contexts.specs.Several.{GoesBy}
 use Rattle.kernel_contexts.specs.Standing.{standing}
 use Rattle.kernel_contexts.specs.Loose.{loose_state, loose_config, loose_thread, loose_events, IsSameLoose}
 use Rattle.kernel_contexts.specs.declared.loose.Loose.{Loose}
-use Rattle.lone_runner.specs.Parting.{parting_at, state_at}
+use Rattle.lone_runner.specs.Parting.{left_over, parting_at, state_at}
 use Rattle.lone_runner.specs.End.{most_turns, turned_below, reach_below, come_from, end_from, parting_by, astray_at, short_of}
 use Rattle.lone_runner.specs.declared.fault.AloneFault.{AloneFault}
-use Rattle.lone_runner.specs.declared.fault.AloneFault.TheVariants.{GoesOn}
+use Rattle.lone_runner.specs.declared.fault.AloneFault.TheVariants.{EndsEarly, GoesOn}
 use Rattle.lone_runner.specs.Resumed.{loose_place, loose_next, comes_over, ends_over, place_after, states_over}
 use Rattle.lone_runner.specs.Watching.{AreQuiet}
 use Rattle.lone_runner.proofs.Counted.{Counts, turn_counted}
 use Rattle.lone_runner.proofs.Walk as walk
-use Rattle.lone_runner.proofs.Places.{counts_later, counts_next, ends_well, turned_counts}
+use Rattle.lone_runner.proofs.Places.{counts_later, counts_next, ends_well, passed, turned_counts}
 use Rattle.lone_runner.proofs.Ends.{over, under, ended_so, strays_here}
 use Rattle.lone_runner.proofs.Lone.{AreFew, few_of, end_after}
 use Rattle.lone_runner.proofs.Resumes.{loose_turned}
@@ -315,7 +315,8 @@ module _ (config : Config) (thread : ℕ) (from : State) (done : ℕ) (events : 
 
     -- ---- a parting before that
 
-    short_low : (fault : AloneFault) (r : Reached) → short_of bound r ≡ Some fault → ((state_at r).count < bound) × (parting_at bound r ≡ Some fault)
+    short_low : (fault : AloneFault) (r : Reached) → short_of bound r ≡ Some fault
+        → ((state_at r).count < bound) × (parting_at bound r ≡ Some fault)
     short_low fault r e = elim (cases_Bool (nat_lt (state_at r).count bound)) [
       | inl less ↦ (grind (arith, nat_tests), sym (ap (λ b. cond b (parting_at bound r) None) less) ∙ e)
       | inr most ↦ absurd (none-some fault (sym (ap (λ b. cond b (parting_at bound r) None) most) ∙ e))
@@ -325,16 +326,30 @@ module _ (config : Config) (thread : ℕ) (from : State) (done : ℕ) (events : 
     last_by r (inl h) less = h.0
     last_by r (inr h) less = let most = h.0 in absurd (omega (arith, most, less))
 
+    -- one that parts below the count parts so from each later one
+    parts_later : (n : ℕ) (fault : AloneFault) (r : Reached) → bound ≤ n → (state_at r).count < bound → parting_at bound r ≡ Some fault
+        → parting_at n r ≡ Some fault
+    parts_later n fault (At s u left) l less parts =
+        let more = passed bound s u left fault parts in absurd (omega (arith, more, less))
+    parts_later n fault (Ended s stop u left) l less parts =
+        let here : nat_lt s.count bound ≡ true = grind (arith, nat_tests) in
+        let there : nat_lt s.count n ≡ true = grind (arith, nat_tests) in
+        ap (λ b. cond b (Some (EndsEarly s.count stop)) (cond (nat_lt n s.count) (Some (GoesOn n)) (left_over left))) there
+        ∙ sym (ap (λ b. cond b (Some (EndsEarly s.count stop)) (cond (nat_lt bound s.count) (Some (GoesOn bound)) (left_over left))) here)
+        ∙ parts
+    parts_later n fault (Strays s u left) l less parts = parts
+
     pub is_short : (fault : AloneFault) → short_of bound (come_from config thread from done events bound) ≡ Some fault
-        → (parting_by bound (end_from config thread from done events) ≡ Some fault)
+        → ((n : ℕ) → bound ≤ n → parting_by n (end_from config thread from done events) ≡ Some fault)
         × ((m : ℕ) → (state_at (at m)).count ≢ bound)
     is_short fault e =
         let low = short_low fault (below (most_turns config)) (ap (short_of bound) (sym comes) ∙ e) in
         let last = last_by (below (most_turns config)) (place (most_turns config)) low.0 in
         let there = ap (λ (q : Reached). (state_at q).count) last in
         let less = low.0 in (
-          ap (parting_by bound) (ends ∙ sym last)
-              ∙ under bound (below (most_turns config)) (omega (arith, less)) ∙ low.1,
+          λ n l. ap (parting_by n) (ends ∙ sym last)
+              ∙ under n (below (most_turns config)) (omega (arith, less, l))
+              ∙ parts_later n fault (below (most_turns config)) l low.0 low.1,
           λ m same. let more = grown m in omega (arith, more, there, less, same),
         )
 
