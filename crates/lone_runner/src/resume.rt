@@ -1,5 +1,6 @@
 //! The rest of a thread's run, from a state that no run vouches for.
-ghost use Rattle.std.specs.Prelude.{◌≡◌, ◌≢◌, ◌+◌, ◌*◌, ◌<◌, ◌≤◌, ◌^◌, length, [], None, Some, Ok, Err, IfOk, IfErr};
+ghost use Rattle.std.specs.Prelude.{◌≡◌, ◌≢◌, ◌+◌, ◌*◌, ◌<◌, ◌≤◌, ◌^◌, length, [], None, Some};
+ghost use Rattle.std.specs.Prelude.{Ok, Err, IfOk, IfErr};
 ghost use Rattle.kernel_contexts.specs.Loose.{loose_state, loose_config, loose_thread, loose_events};
 ghost use Rattle.kernel_contexts.specs.Loose.{loose_bank, loose_stop, IsSameLoose};
 ghost use Rattle.kernel_contexts.specs.Context.{HasFreePlace};
@@ -57,9 +58,9 @@ fn make_turn(loose: &mut Loose, ticket: &mut JournalTicket) -> Result<Option<Sto
 }
 
 /// Makes turns of a thread until so many instructions are counted, or until its run ends, and tells the stop
-/// where it does; a poll or a delivery that is due at the bound is not made. One looks on at each turn but those
-/// that it lets be made at once. A fault but `Memory` tells that the thread asked an operation that the next
-/// event does not answer.
+/// where it does; a poll or a delivery that is due at the bound is not made. One looks on at each turn but
+/// those that it lets be made at once. A fault but `Memory` tells that the thread asked an operation that the
+/// next event does not answer.
 pub fn go_watched<W: Watch>(
     loose: &mut Loose,
     ticket: &mut JournalTicket,
@@ -132,8 +133,8 @@ pub fn resume_to(
 }
 
 /// Makes turns of a thread that has not passed a count until it stops: when so many instructions are counted,
-/// with all events of its ticket used. Else the fault is the first by which it parts from that, an event being
-/// told by its place in the thread's journal; `Memory` is want of memory. One looks on as at `go_watched`.
+/// with all events of its ticket used. Else the fault is the first by which it parts from that, an event told
+/// by its place in the thread's journal; `Memory` is want of memory. One looks on as at `go_watched`.
 pub fn resume_watched<W: Watch>(
     loose: &mut Loose,
     ticket: &mut JournalTicket,
@@ -142,8 +143,8 @@ pub fn resume_watched<W: Watch>(
 ) -> Result<Stop, AloneFault>
     requires ready { IsToResume loose.old ticket.old count }
     requires known { W.knows watch.old (states_over loose.old ticket.old.ahead) 0 }
-    ensures run { IfOk result (λ stop.
-        ends_over loose.old ticket.old.ahead ≡ Ended (loose_state loose.new) stop (loose_events loose.new) []) }
+    ensures run { IfOk result (λ stop. ends_over loose.old ticket.old.ahead
+        ≡ Ended (loose_state loose.new) stop (loose_events loose.new) []) }
     ensures counts { IfOk result (λ stop. (loose_state loose.new).count ≡ count) }
     ensures known { IfOk result (λ stop. IsKnown (W.knows watch.new) loose.old ticket.old.ahead
         (Ended (loose_state loose.new) stop (loose_events loose.new) [])) }
@@ -171,8 +172,8 @@ pub fn resume_to_end(
     count: u32,
 ) -> Result<Stop, AloneFault>
     requires { IsToResume loose.old ticket.old count }
-    ensures run { IfOk result (λ stop.
-        ends_over loose.old ticket.old.ahead ≡ Ended (loose_state loose.new) stop (loose_events loose.new) []) }
+    ensures run { IfOk result (λ stop. ends_over loose.old ticket.old.ahead
+        ≡ Ended (loose_state loose.new) stop (loose_events loose.new) []) }
     ensures counts { IfOk result (λ stop. (loose_state loose.new).count ≡ count) }
     ensures parts { IfErr result (λ fault. fault ≢ AloneFault.Memory
         → parting_by count (ends_over loose.old ticket.old.ahead) ≡ Some fault) }

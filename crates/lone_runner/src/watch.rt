@@ -15,8 +15,8 @@ pub trait Watch {
     /// The same where it has looked at the n-th, before the turn that is made there.
     ghost looks: { Self → (ℕ → State) → ℕ → Type 0 };
 
-    /// How many turns, `most` at most, may be made at once from here of which nothing is told, where each goes
-    /// on, asks nothing and uses no event.
+    /// How many turns, `most` at most, may be made at once from here of which nothing is told, where each
+    /// goes on, asks nothing and uses no event.
     fn free(&mut self, loose: &Loose, most: u32) -> u32
         requires { IsOfSome (knows self.old) (loose_state loose.now) }
         ensures few { result ≤ most }

@@ -14,7 +14,7 @@ ghost use Rattle.run_laws.specs.Rests.{ComesToTheRun};
 
 /// A thread that shares its words with no other has one run: where two journals of thread 0 are each one
 /// history with some words, and the thread's run over each has an end, the journals and the words are the
-/// same, and so, by `one_end`, the states and the stops.
+/// same, and so are the states and the stops, which `lone_end` tells.
 pub fn one_run()
     ensures journal { (program : Program) (config : Config) (j k : List Event) (s t : State) (p q : Stop)
         (v w : Words) → IsLoneRun program config 0 j s p → IsLoneRun program config 0 k t q
