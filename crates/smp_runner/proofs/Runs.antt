@@ -16,6 +16,7 @@ use Rattle.kernel_contexts.specs.Standing.{IsRunOf}
 use Rattle.kernel_contexts.specs.Context.{image_of, config_of, thread_of, state_of, stop_of, journal_of, is_home}
 use Rattle.kernel_contexts.specs.declared.context.Context.{Context}
 use Rattle.lone_runner.specs.LoneRun.{HasRunAlone, HaveRun}
+use Rattle.lone_runner.proofs.Lone.{lone_end_at}
 use Rattle.smp_runner.specs.Ended.{IsAtItsStop}
 
 at_map : {X : Type 0} (f : X → ℕ) (xs : List X) (k : ℕ) (x : X) (d : ℕ) → slice_get xs k ≡ Some x → get_or (map f xs) k d ≡ f x
@@ -48,11 +49,8 @@ alone image config k c e number = go (stop_of c) refl
           number = number;
           stop = stop;
           stopped = is;
-          run = record {
-            turns = turns;
-            used = length (journal_of c);
-            ends = subst (λ (n : ℕ). reach image config n (journal_of c) turns ≡ end) number d;
-          };
+          run = lone_end_at image config k (journal_of c) turns end refl
+              (subst (λ (n : ℕ). reach image config n (journal_of c) turns ≡ end) number d);
         }
 
 -- numbers from 0 on, of so many as there are items

@@ -13,11 +13,13 @@ use Rattle.sm_types.specs.declared.stop.Stop.{Stop}
 use Rattle.shared_region.specs.History.{part_of}
 use Rattle.paged_memory.specs.Image.{Program}
 use Rattle.kernel_contexts.specs.Context.{journal_of, thread_of, state_of, stop_of}
+use Rattle.kernel_contexts.specs.Run.{Ended}
 use Rattle.kernel_contexts.specs.Standing.{IsRunOf}
 use Rattle.kernel_contexts.specs.State.{State}
 use Rattle.kernel_contexts.specs.declared.context.Context.{Context}
 use Rattle.lone_runner.specs.LoneRun.{IsLoneRun, HasRunAlone, HaveRun}
 use Rattle.lone_runner.proofs.Few.{few_under_way}
+use Rattle.lone_runner.proofs.Lone.{lone_end_at}
 use Rattle.kernel_contexts.specs.Guest.{Guest, guest_of}
 use Rattle.world_core.specs.Finish.{AreThreadsOf}
 use Rattle.world_core.specs.Kept.{Stands, IsKept, HasStopped}
@@ -35,12 +37,12 @@ few_turns program w g h goes =
     let few = running_few program w.config g.number g.journal g.state g.stop goes h.run in
     subst (λ (c : Config). g.state.turns ≤ 64 * c.budget) (sym h.options) few
 
-lone_end : (program : Program) (config : Config) (thread : ℕ) (journal : List Event) (s : State) (stop : Option Stop)
+ended_alone : (program : Program) (config : Config) (thread : ℕ) (journal : List Event) (s : State) (stop : Option Stop)
     → is_some stop ≡ true → IsRunOf program config thread journal s stop
     → (at : Stop) × (stop ≡ Some at) × IsLoneRun program config thread journal s at
-lone_end program config thread journal s (Some at) some run =
-    (at, refl, record { turns = s.turns + 1; used = length journal; ends = run })
-lone_end program config thread journal s None some run = cc
+ended_alone program config thread journal s (Some at) some run =
+    (at, refl, lone_end_at program config thread journal (s.turns + 1) (Ended s at (length journal) []) refl run)
+ended_alone program config thread journal s None some run = cc
 
 module _ (program : Program) (config : Config) (w : World) (contexts : List Context) (words : Words) (h : IsKept program w)
     (same : w.config ≡ config) (done : threads_of w ≡ w.done) (e : AreThreadsOf w contexts words) where
@@ -61,7 +63,7 @@ module _ (program : Program) (config : Config) (w : World) (contexts : List Cont
       let s = stood k c get in
       let run = subst (λ (o : Config). IsRunOf program o (thread_of c) (journal_of c) (state_of c) (stop_of c)) same s.0.run in
       let here = subst (λ (n : ℕ). IsRunOf program config n (journal_of c) (state_of c) (stop_of c)) t.number_of run in
-      let end = lone_end program config k (journal_of c) (state_of c) (stop_of c) s.1 here in
+      let end = ended_alone program config k (journal_of c) (state_of c) (stop_of c) s.1 here in
       record { home = t.home; number = t.number_of; stop = end.0; stopped = end.1; run = end.2 }
 
   counted : length (map journal_of contexts) ≡ w.config.threads
