@@ -7,7 +7,6 @@ ghost use Rattle.kernel_contexts.specs.SaveArea.{IsSaveArea};
 ghost use Rattle.kernel_contexts.specs.Owner.{owns};
 
 use crate::guest::GuestThread;
-use crate::handlers::handler_of;
 use crate::view::StateView;
 use machine_step::{Halts, Machine, Made};
 use mem_access::Bank;
@@ -76,7 +75,6 @@ pub struct Finished {
 }
 
 impl Context {
-    ghost use Rattle.std.specs.FinMap.{get};
     ghost use Rattle.kernel_contexts.specs.State.{start_state};
     ghost use Rattle.kernel_contexts.specs.View.{state_seen, IsOfOptions};
     ghost use Rattle.kernel_contexts.specs.HandlerTable.{handlers_of};
@@ -324,13 +322,6 @@ impl Context {
         ensures { result ≡ (state_of self.now).polled }
     {
         self.guest.polled
-    }
-
-    /// The address of a signal's handler; `None` exactly where none is set.
-    pub fn handler(&self, signal: u32) -> Option<u64>
-        ensures { result ≡ get (state_of self.now).handlers signal }
-    {
-        handler_of(&self.guest.handlers, signal)
     }
 
     /// An address for each of the numbers 0 to 62, of which 0 is no signal: that of the signal's handler, or

@@ -1,11 +1,10 @@
 //! The state of a guest thread that no run vouches for, and its turns.
-ghost use Rattle.std.specs.Prelude.{◌≡◌, ◌<◌, ◌≤◌, length, None, IfOk, true};
+ghost use Rattle.std.specs.Prelude.{◌≡◌, ◌<◌, ◌≤◌, None, IfOk, true};
 ghost use Rattle.sm_types.specs.declared.limits.TheConstants.{JOURNAL_LIMIT};
 ghost use Rattle.kernel_contexts.specs.SaveArea.{IsSaveArea};
 
 use crate::context::Turn;
 use crate::guest::GuestThread;
-use crate::handlers::handler_of;
 use crate::loose_bank::bank_of;
 use crate::loose_state::LooseState;
 use crate::view::StateView;
@@ -26,8 +25,6 @@ pub struct Loose {
 }
 
 impl Loose {
-    ghost use Rattle.std.specs.FinMap.{get};
-    ghost use Rattle.kernel_contexts.specs.HandlerTable.{handlers_of};
     ghost use Rattle.kernel_contexts.specs.State.{start_state};
     ghost use Rattle.kernel_contexts.specs.View.{state_seen, IsOfOptions};
     ghost use Rattle.kernel_contexts.specs.LooseState.{IsLooseState, HasFields};
@@ -130,64 +127,6 @@ impl Loose {
         ensures { result ≡ (loose_state self.now).count }
     {
         self.guest.count
-    }
-
-    /// Turns made.
-    pub fn turns(&self) -> u64
-        ensures { result ≡ (loose_state self.now).turns }
-    {
-        self.guest.turns
-    }
-
-    /// The bytes that the thread has written.
-    pub fn output(&self) -> &[u8]
-        ensures { result.now ≡ (loose_state self.now).output }
-    {
-        self.guest.output.as_slice()
-    }
-
-    /// The signals that are held, a bit for each.
-    pub fn held(&self) -> u64
-        ensures { result ≡ (loose_state self.now).held }
-    {
-        self.guest.held
-    }
-
-    /// The signals that are not delivered, a bit for each.
-    pub fn mask(&self) -> u64
-        ensures { result ≡ (loose_state self.now).mask }
-    {
-        self.guest.mask
-    }
-
-    /// How many handlers the thread is in.
-    pub fn depth(&self) -> u32
-        ensures { result ≡ (loose_state self.now).depth }
-    {
-        self.guest.depth
-    }
-
-    /// Whether the pending signals were polled since the last counted instruction.
-    pub fn polled(&self) -> bool
-        ensures { result ≡ (loose_state self.now).polled }
-    {
-        self.guest.polled
-    }
-
-    /// The address of a signal's handler; `None` exactly where none is set.
-    pub fn handler(&self, signal: u32) -> Option<u64>
-        ensures { result ≡ get (loose_state self.now).handlers signal }
-    {
-        handler_of(&self.guest.handlers, signal)
-    }
-
-    /// An address for each of the numbers 0 to 62, of which 0 is no signal: that of the signal's handler, or
-    /// 0 where none is set.
-    pub fn handlers(&self) -> &[u64]
-        ensures value { handlers_of result.now ≡ (loose_state self.now).handlers }
-        ensures count { length result.now ≡ 63 }
-    {
-        &self.guest.handlers
     }
 
     /// The thread's registers and pages.

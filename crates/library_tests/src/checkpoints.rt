@@ -88,7 +88,7 @@ fn a_checkpoint_is_read_back(rt: HostRuntime) {
         .expect(&rt, "the rest");
     assert_eq!(rt; stop, Stop::Exited(42));
     assert_eq!(rt; end.machine().scalars.x[8], 93);
-    assert_eq!(rt; end.turns(), 3);
+    assert_eq!(rt; end.view().turns, 3);
 }
 
 #[test]
