@@ -9,6 +9,7 @@ ghost use Rattle.kernel_contexts.specs.View.{state_seen};
 use crate::bank::{put_array, put_ffr, put_predicates, put_vectors};
 use crate::digest::put_memory_line;
 use edge_io::{Piece, PutFault, Sink};
+use kernel_contexts::StateView;
 use machine_step::read_svcr;
 use text_lines::{
     LineKind, put_flag_line, put_flags_line, put_hex_line, put_number_line, put_value_lines,
