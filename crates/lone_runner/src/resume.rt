@@ -85,7 +85,7 @@ pub fn go_watched<W: Watch>(
     ensures same { IsSameLoose loose.old loose.new }
 {
     'turns: while u64::from(loose.count()) < bound {
-        watch.before(loose);
+        watch.before(loose)?;
         let stop = make_turn(loose, ticket)?;
         watch.after(loose)?;
         match stop {

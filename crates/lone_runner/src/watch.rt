@@ -25,11 +25,11 @@ pub trait Watch {
             → AreQuiet (loose_config loose.now) (loose_thread loose.now) (loose_events loose.now) run n k
             → knows self.new run (n + k) };
 
-    /// Looks at the state before a turn.
-    fn before(&mut self, loose: &Loose)
+    /// Looks at the state before a turn. `Memory` is want of memory.
+    fn before(&mut self, loose: &Loose) -> Result<(), Memory>
         requires { IsOfSome (knows self.old) (loose_state loose.now) }
         ensures { (run : ℕ → State) (n : ℕ) → knows self.old run n → run n ≡ loose_state loose.now
-            → looks self.new run n };
+            → IfOk result (λ done. looks self.new run n) };
 
     /// Looks at the state after it. `Memory` is want of memory.
     fn after(&mut self, loose: &Loose) -> Result<(), Memory>
@@ -55,7 +55,9 @@ impl Watch for Unwatched {
     }
 
     #[inline(always)]
-    fn before(&mut self, _loose: &Loose) {}
+    fn before(&mut self, _loose: &Loose) -> Result<(), Memory> {
+        Ok(())
+    }
 
     #[inline(always)]
     fn after(&mut self, _loose: &Loose) -> Result<(), Memory> {

@@ -46,7 +46,7 @@ after-requires g c =
     record {
       run = run;
       turns = h.way.going.turns;
-      looked = c.before-in-turns.ensures run h.way.going.turns h.way.known
+      looked = c.in_ok-before.ensures run h.way.going.turns h.way.known
           (state_there from c.args.ticket.now.ahead c.args.bound old c.turns.ticket h.way.going);
       here = state_next from c.args.ticket.now.ahead c.args.bound old c.turns.ticket h.same h.way.going less new ticket _ e.turn;
       turn = turn_next from c.args.ticket.now.ahead c.args.bound old c.turns.ticket h.same h.way.going less new ticket _ e.turn e.same;
@@ -67,7 +67,7 @@ free-free-requires g c =
       run = run;
       turns = suc h.way.going.turns;
       known = c.in_ok-after.ensures run h.way.going.turns
-          (c.before-in-turns.ensures run h.way.going.turns h.way.known
+          (c.in_ok-before.ensures run h.way.going.turns h.way.known
           (state_there from c.args.ticket.now.ahead c.args.bound old c.turns.ticket h.way.going)) there
           (turn_next from c.args.ticket.now.ahead c.args.bound old c.turns.ticket h.same h.way.going less new ticket _ e.turn e.same);
       here = there;
@@ -80,8 +80,8 @@ returns-in_err-stop-clause-astray g c =
     let old = c.turns.loose in
     let fault = c.in_err-stop.field-0.0 in
     let less : (loose_state old).count < c.args.bound = omega (arith, c.turns-test.true, c.from.ensures, c.count.ensures) in
-    passed_on c.from_residual.result fault
-    (λ (f : AloneFault). f ≢ Memory → astray_at (comes_over from c.args.ticket.now.ahead c.args.bound) ≡ Some f) c.from_residual.ensures.1
+    passed_on c.from_residual-in_err-stop.result fault
+    (λ (f : AloneFault). f ≢ Memory → astray_at (comes_over from c.args.ticket.now.ahead c.args.bound) ≡ Some f) c.from_residual-in_err-stop.ensures.1
     (λ told. let astray = c.in_err-stop.ensures.astray told in
     ap astray_at
     (going_ends from c.args.ticket.now.ahead c.args.bound old c.turns.ticket h.same h.way.going less
@@ -111,7 +111,7 @@ returns-in-Some-clause-known g c =
     let run = states_over from c.args.ticket.now.ahead in
     let turn = e.turn ∙ ap (loose_place new ticket) c.in-Some.is in
     let looked =
-    c.before-in-turns.ensures run h.way.going.turns h.way.known
+    c.in_ok-before.ensures run h.way.going.turns h.way.known
     (state_there from c.args.ticket.now.ahead c.args.bound old c.turns.ticket h.way.going) in
     known_ended from c.args.ticket.now.ahead (g.W.Watch.knows c.after.new.self) c.args.bound old c.turns.ticket h.way.going
     (Ended (loose_state new) c.in-Some.stop (loose_events new) ticket.ahead)
@@ -154,7 +154,7 @@ turns-preserved g c =
     let run = states_over from c.args.ticket.now.ahead in
     let turn = e.turn ∙ ap (loose_place mid ticket) c.in-None.is in
     let looked =
-    c.before-in-turns.ensures run h.way.going.turns h.way.known
+    c.in_ok-before.ensures run h.way.going.turns h.way.known
     (state_there from c.args.ticket.now.ahead c.args.bound c.turns.loose c.turns.ticket h.way.going) in
     let there =
     state_next from c.args.ticket.now.ahead c.args.bound c.turns.loose c.turns.ticket h.same h.way.going less mid ticket None turn in
