@@ -5,12 +5,12 @@ use Rattle.sm_types.specs.declared.shared_op.Event.{Event}
 use Rattle.paged_memory.specs.Image.{Program}
 use Rattle.kernel_contexts.specs.State.{State, start_state}
 use Rattle.kernel_contexts.specs.Run.{Reached, At, reach, reach_from}
-use Rattle.lone_runner.specs.Parting.{state_at}
+use Rattle.lone_runner.specs.Parting.{IsEarly, state_at}
 use Rattle.lone_runner.specs.End.{IsParting, IsPartingBefore, come_from, come_to, lone_end, short_of}
 use Rattle.lone_runner.specs.Rest.{IsPartingFrom}
 use Rattle.lone_runner.specs.declared.fault.AloneFault.{AloneFault}
 use Rattle.lone_runner.proofs.Lone.{AreFew, few_alone}
-use Rattle.lone_runner.proofs.Going.{come_is_first, comes_counted, comes_on, first_of_come, is_short}
+use Rattle.lone_runner.proofs.Going.{come_is_first, comes_counted, comes_on, first_of_come, is_short, not_short, short_early}
 
 module _ (program : Program) (config : Config) (thread : ℕ) (journal : List Event) (count : ℕ) where
   abbrev start : State
@@ -37,6 +37,13 @@ module _ (program : Program) (config : Config) (thread : ℕ) (journal : List Ev
       × ((turns : ℕ) → (state_at (reach program config thread journal turns)).count ≢ count)
   unfolding reach
   parts_before fault e = is_short config thread start 0 journal count few fault e
+
+  pub none_before : (fault : AloneFault) → (state_at (come_to program config thread journal count)).count ≡ count
+      → IsPartingBefore program config thread journal count fault → ⊥
+  none_before fault same e = not_short config thread start 0 journal count few fault same e
+
+  pub early_before : (fault : AloneFault) → IsPartingBefore program config thread journal count fault → IsEarly fault
+  early_before fault e = short_early config thread start 0 journal count few fault e
 
   pub rest_comes_there : (turns : ℕ) (from : State) (done : ℕ) (left : List Event)
       → reach program config thread journal turns ≡ At from done left → from.count < count

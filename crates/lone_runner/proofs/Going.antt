@@ -1,10 +1,10 @@
 -- A thread that comes by its turns to so many instructions, or ends before.
-use Rattle.std.proofs.Common.{◌⊎◌, inl, inr, ◌≡◌, ◌≢◌, true, false, cond, ℕ, zero, suc, ◌+◌, ◌<◌, ◌≤◌, List, [], Option, Some, None, refl, ap, sym, ◌∙◌}
+use Rattle.std.proofs.Common.{◌⊎◌, inl, inr, ◌≡◌, ◌≢◌, true, false, cond, ℕ, zero, suc, ◌+◌, ◌<◌, ◌≤◌, List, [], ◌∷◌, Option, Some, None, refl, ap, sym, ◌∙◌}
 use Rattle.std.proofs.Common.{arith, subst}
 use Rattle.std.specs.Prelude.{nat_lt}
 use Rattle.std.proofs.lemmas.Bool.{cases_Bool}
 use Rattle.std.proofs.lemmas.Bool.Decides.{nat_tests}
-use Rattle.std.proofs.lemmas.Option.{none-some}
+use Rattle.std.proofs.lemmas.Option.{none-some, same_Some}
 use Rattle.plain_lemmas.proofs.Numbers.{cases_lt_eq_gt}
 use Rattle.sm_types.specs.declared.config.Config.{Config}
 use Rattle.sm_types.specs.declared.shared_op.Event.{Event}
@@ -18,10 +18,10 @@ use Rattle.kernel_contexts.specs.Several.{GoesBy}
 use Rattle.kernel_contexts.specs.Standing.{standing}
 use Rattle.kernel_contexts.specs.Loose.{loose_state, loose_config, loose_thread, loose_events, IsSameLoose}
 use Rattle.kernel_contexts.specs.declared.loose.Loose.{Loose}
-use Rattle.lone_runner.specs.Parting.{left_over, parting_at, state_at}
+use Rattle.lone_runner.specs.Parting.{IsEarly, left_over, parting_at, state_at}
 use Rattle.lone_runner.specs.End.{most_turns, turned_below, reach_below, come_from, end_from, parting_by, astray_at, short_of}
 use Rattle.lone_runner.specs.declared.fault.AloneFault.{AloneFault}
-use Rattle.lone_runner.specs.declared.fault.AloneFault.TheVariants.{EndsEarly, GoesOn}
+use Rattle.lone_runner.specs.declared.fault.AloneFault.TheVariants.{EndsEarly, GoesOn, JournalDiffers, JournalShort}
 use Rattle.lone_runner.specs.Resumed.{loose_place, loose_next, comes_over, ends_over, place_after, states_over}
 use Rattle.lone_runner.specs.Watching.{AreQuiet}
 use Rattle.lone_runner.proofs.Counted.{Counts, turn_counted}
@@ -352,6 +352,27 @@ module _ (config : Config) (thread : ℕ) (from : State) (done : ℕ) (events : 
               ∙ parts_later n fault (below (most_turns config)) l low.0 low.1,
           λ m same. let more = grown m in omega (arith, more, there, less, same),
         )
+
+    early_by : (fault : AloneFault) (r : Reached) → (state_at r).count < bound → parting_at bound r ≡ Some fault → IsEarly fault
+    early_by fault (At s u left) less parts = let more = passed bound s u left fault parts in absurd (omega (arith, more, less))
+    early_by fault (Ended s stop u left) less parts =
+        let early : nat_lt s.count bound ≡ true = grind (arith, nat_tests) in
+        subst IsEarly (same_Some (EndsEarly s.count stop) fault
+        (sym (ap (λ b. cond b (Some (EndsEarly s.count stop)) (cond (nat_lt bound s.count) (Some (GoesOn bound)) (left_over left))) early)
+        ∙ parts)) tt
+    early_by fault (Strays s u []) less parts = subst IsEarly (same_Some (JournalShort s.count) fault parts) tt
+    early_by fault (Strays s u (event ∷ left)) less parts = subst IsEarly (same_Some (JournalDiffers u) fault parts) tt
+
+    pub short_early : (fault : AloneFault) → short_of bound (come_from config thread from done events bound) ≡ Some fault → IsEarly fault
+    short_early fault e =
+        let there = come_from config thread from done events bound in
+        let low = short_low fault there e in early_by fault there low.0 low.1
+
+    pub not_short : (fault : AloneFault) → (state_at (come_from config thread from done events bound)).count ≡ bound
+        → short_of bound (come_from config thread from done events bound) ≡ Some fault → ⊥
+    not_short fault same e =
+        let low = short_low fault (come_from config thread from done events bound) e in
+        let less = low.0 in absurd (omega (arith, less, same))
 
     -- ---- each count up to that of the end is come to
 

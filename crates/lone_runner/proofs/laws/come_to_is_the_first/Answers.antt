@@ -1,4 +1,4 @@
-use Rattle.lone_runner.proofs.Firsts.{come_first, parts_before, rest_comes_first, rest_parts_before}
+use Rattle.lone_runner.proofs.Firsts.{come_first, early_before, none_before, parts_before, rest_comes_first, rest_parts_before}
 use Rattle.lone_runner.proofs.Lone.{few_of}
 use Rattle.lone_runner.proofs.laws.come_to_is_the_first.Goals as goal
 
@@ -7,6 +7,12 @@ returns-clause-first c = come_first
 
 pub returns-clause-before : goal.returns-clause-before
 returns-clause-before c = parts_before
+
+pub returns-clause-apart : goal.returns-clause-apart
+returns-clause-apart c = none_before
+
+pub returns-clause-early : goal.returns-clause-early
+returns-clause-early c = early_before
 
 pub returns-clause-rest : goal.returns-clause-rest
 returns-clause-rest c = λ config thread from done events count r within handlers.
